@@ -1,0 +1,162 @@
+-- Laws of a number at a place of a file, and of a number that is written there, each over the order and the width.
+-- Assumes nothing.
+use mathlib.Core.Path.{_≡_, refl, sym, ap, subst, _∙_}
+use mathlib.Core.Logic.{_⊎_, inl, inr, ⊎-elim}
+use mathlib.Core.List.{List, [], _∷_, _++_, reverse, reverse-append}
+use Prim.Native.Nat.{ℕ, zero, suc, _+_, _-_, _/_, _%_, _^_, _≤_, _<_}
+use native.Mathlib.Decide.{decLt}
+use native.Mathlib.Nat.{add-zero, div-div-eq-div-mul, lt-of-lt-of-le, pow-le-pow-right, pow-suc}
+use native.Mathlib.Numerals.{add-one}
+use native.Mathlib.Omega.{arith}
+use lib.Dec.{lit<}
+use lib.ListN.{length, getD, set, drop, length-take, List·getD-eq-default}
+use lib.Seq.{sets, length-sets}
+use Rattle.lists.specs.Lists.{Apart, part}
+use Rattle.lists.proofs.Parts.{length-part, getD-part, part-suc, part-part, part-left, part-right, part-same}
+use Rattle.lists.proofs.Stores.{Where, below, inside, above, where-is, sets-below, sets-above, sets-inside, part-stored, part-apart, set-sets, sets-append, sets-comm, sets-last}
+use Rattle.endian.specs.Numbers.{digits, ordered, place, decode, encode, digitsAt, withByte, numberAt, Bytes}
+use Rattle.endian.specs.declared.Order.{Order}
+use Rattle.endian.specs.declared.Order.the-variants.{Big, Little}
+use Rattle.endian.proofs.Numbers.{length-ordered, ordered-bytes, digit-at, place-inside, length-digits, digits-more, length-encode, encode-bytes, decode-encode, decode-encode-low, decode-bound, decode-more}
+
+-- ---- a number that is read
+
+part-bytes : (at w : ℕ) (f : List ℕ) → Bytes f → Bytes (part at w f)
+part-bytes at w f h i = step (decLt i w)
+  where
+    step : Dec (i < w) → getD (part at w f) i 0 < 256
+    step (yes lt) = rw (getD-part at w f i 0 lt) (h (at + i))
+    step (no ge) = rw (List·getD-eq-default (part at w f) 0 {n = i} (omega (arith, length-take w (drop at f)))) (lit< tt)
+
+pub number-bound : (o : Order) (w : ℕ) (f : List ℕ) (at : ℕ) → Bytes f → numberAt o w f at < 256 ^ w
+unfolding numberAt
+number-bound o w f at h =
+    lt-of-lt-of-le (decode-bound o (part at w f) (part-bytes at w f h))
+    (pow-le-pow-right {n = 256} (lit< tt) (omega (arith, length-take w (drop at f))))
+
+-- a number of at most four bytes fits 32 bits
+pub number-fits : (o : Order) (w : ℕ) (f : List ℕ) (at : ℕ) → Bytes f → w ≤ 4 → numberAt o w f at < 2 ^ 32
+number-fits o w f at h l = lt-of-lt-of-le (number-bound o w f at h) (pow-le-pow-right {n = 256} (lit< tt) l)
+
+-- two files of one length that agree on a number's bytes have the same number there
+pub number-same : (o : Order) (w : ℕ) (f g : List ℕ) (at : ℕ) → length f ≡ length g → ((i : ℕ) → at ≤ i → i < at + w → getD f i 0 ≡ getD g i 0) → numberAt o w f at ≡ numberAt o w g at
+unfolding numberAt
+number-same o w f g at e h = ap (decode o) (part-same at w f g 0 e h)
+
+-- one byte more
+pub number-more : (o : Order) (w : ℕ) (f : List ℕ) (at : ℕ) → at + w < length f → numberAt o (suc w) f at ≡ withByte o w (numberAt o w f at) (getD f (at + w) 0)
+unfolding numberAt
+number-more o w f at h =
+    ap (decode o) (part-suc at w f 0 h)
+    ∙ decode-more o (part at w f) (getD f (at + w) 0)
+    ∙ ap (λ (x : ℕ). withByte o x (decode o (part at w f)) (getD f (at + w) 0)) (length-part at w f (omega arith))
+
+-- a number in a part of a file, and in either of two files that stand one behind the other
+pub number-part : (o : Order) (w : ℕ) (f : List ℕ) (a n at : ℕ) → at + w ≤ n → numberAt o w (part a n f) at ≡ numberAt o w f (a + at)
+unfolding numberAt
+number-part o w f a n at h = ap (decode o) (part-part a n at w f h)
+
+pub number-left : (o : Order) (w : ℕ) (f g : List ℕ) (at : ℕ) → at + w ≤ length f → numberAt o w (f ++ g) at ≡ numberAt o w f at
+unfolding numberAt
+number-left o w f g at h = ap (decode o) (part-left at w f g h)
+
+pub number-right : (o : Order) (w : ℕ) (f g : List ℕ) (at : ℕ) → numberAt o w (f ++ g) (length f + at) ≡ numberAt o w g at
+unfolding numberAt
+number-right o w f g at = ap (decode o) (part-right at w f g)
+
+-- ---- the digits of a number
+
+pub length-digitsAt : (o : Order) (w : ℕ) (f : List ℕ) (at : ℕ) → at + w ≤ length f → length (digitsAt o w f at) ≡ w
+length-digitsAt o w f at h = length-ordered o (part at w f) ∙ length-part at w f h
+
+pub digitsAt-bytes : (o : Order) (w : ℕ) (f : List ℕ) (at : ℕ) → Bytes f → Bytes (digitsAt o w f at)
+digitsAt-bytes o w f at h = ordered-bytes o (part at w f) (part-bytes at w f h)
+
+-- the digit k is the byte at its place
+pub digit-read : (o : Order) (w : ℕ) (f : List ℕ) (at k : ℕ) → k < w → at + w ≤ length f → getD (digitsAt o w f at) k 0 ≡ getD f (at + place o w k) 0
+digit-read o w f at k h fits =
+    let e : length (part at w f) ≡ w = length-part at w f fits in
+    digit-at o (part at w f) k (omega arith)
+    ∙ ap (λ (x : ℕ). getD (part at w f) (place o x k) 0) e
+    ∙ getD-part at w f (place o w k) 0 (place-inside o w k h)
+
+-- ---- a number that is written
+
+-- where the bytes of a number stand, the number is read
+pub number-held : (o : Order) (w : ℕ) (f : List ℕ) (at n : ℕ) → part at w f ≡ encode o w n → n < 256 ^ w → numberAt o w f at ≡ n
+unfolding numberAt
+number-held o w f at n e h = ap (decode o) e ∙ decode-encode o w n h
+
+written-part : (o : Order) (w : ℕ) (f : List ℕ) (at n : ℕ) → at + w ≤ length f → part at w (sets f at (encode o w n)) ≡ encode o w n
+written-part o w f at n h =
+    subst (λ (x : ℕ). part at x (sets f at (encode o w n)) ≡ encode o w n) (length-encode o w n)
+    (part-stored (encode o w n) f at 0 (rw (length-encode o w n) h))
+
+pub read-back : (o : Order) (w : ℕ) (f : List ℕ) (at n : ℕ) → at + w ≤ length f → n < 256 ^ w → numberAt o w (sets f at (encode o w n)) at ≡ n
+read-back o w f at n h l = number-held o w (sets f at (encode o w n)) at n (written-part o w f at n h) l
+
+-- of any number the low w bytes are read back
+pub read-back-low : (o : Order) (w : ℕ) (f : List ℕ) (at n : ℕ) → at + w ≤ length f → numberAt o w (sets f at (encode o w n)) at ≡ n % 256 ^ w
+unfolding numberAt
+read-back-low o w f at n h = ap (decode o) (written-part o w f at n h) ∙ decode-encode-low o w n
+
+-- a byte and a number elsewhere are as they were, bytes stay bytes, and so does the length
+pub byte-frame : (o : Order) (w : ℕ) (f : List ℕ) (at n i : ℕ) → (i < at) ⊎ (at + w ≤ i) → getD (sets f at (encode o w n)) i 0 ≡ getD f i 0
+byte-frame o w f at n i h =
+    ⊎-elim (λ lt. sets-below (encode o w n) f at i 0 lt) (λ ge. sets-above (encode o w n) f at i 0 (rw (length-encode o w n) ge)) h
+
+pub number-frame : (o p : Order) (w v : ℕ) (f : List ℕ) (at n b : ℕ) → Apart b v at w → numberAt p v (sets f at (encode o w n)) b ≡ numberAt p v f b
+unfolding numberAt
+number-frame o p w v f at n b h = ap (decode p) (part-apart (encode o w n) f at b v 0 (rw (length-encode o w n) h))
+
+pub write-length : (o : Order) (w : ℕ) (f : List ℕ) (at n : ℕ) → length (sets f at (encode o w n)) ≡ length f
+write-length o w f at n = length-sets f at (encode o w n)
+
+pub write-bytes : (o : Order) (w : ℕ) (f : List ℕ) (at n : ℕ) → at + w ≤ length f → Bytes f → Bytes (sets f at (encode o w n))
+write-bytes o w f at n fits h i = step (where-is i at w)
+  where
+    step : Where i at w → getD (sets f at (encode o w n)) i 0 < 256
+    step (below lt) = rw (byte-frame o w f at n i (inl lt)) (h i)
+    step (inside k e lt) = rw (e, sets-inside (encode o w n) f at k 0 (rw (length-encode o w n) fits) (rw (length-encode o w n) lt)) (encode-bytes o w n k)
+    step (above ge) = rw (byte-frame o w f at n i (inr ge)) (h i)
+
+-- two writes elsewhere in either order, and two at one place, of which the last stands
+pub write-comm : (o p : Order) (w v : ℕ) (f : List ℕ) (at n b m : ℕ) → Apart at w b v → sets (sets f at (encode o w n)) b (encode p v m) ≡ sets (sets f b (encode p v m)) at (encode o w n)
+write-comm o p w v f at n b m h = sets-comm (encode o w n) (encode p v m) f at b (rw (length-encode o w n, length-encode p v m) h)
+
+pub write-last : (o p : Order) (w : ℕ) (f : List ℕ) (at n m : ℕ) → sets (sets f at (encode o w n)) at (encode p w m) ≡ sets f at (encode p w m)
+write-last o p w f at n m = sets-last (encode o w n) (encode p w m) f at (length-encode o w n ∙ sym (length-encode p w m))
+
+-- ---- a number that is written digit by digit, the least significant first
+
+-- where the k low bytes of w stand
+abbrev pub lowStart : Order → ℕ → ℕ → ℕ
+lowStart Big w k = w - k
+lowStart Little w k = 0
+
+-- before the first digit
+pub written-none : (o : Order) (w : ℕ) (f : List ℕ) (at n : ℕ) → f ≡ sets f (at + lowStart o w 0) (encode o 0 n)
+unfolding encode digits
+written-none Big w f at n = refl
+written-none Little w f at n = refl
+
+-- one digit more
+pub written-more : (o : Order) (w : ℕ) (f : List ℕ) (at n k : ℕ) → k < w
+    → set (sets f (at + lowStart o w k) (encode o k n)) (at + place o w k) (n / 256 ^ k % 256) ≡ sets f (at + lowStart o w (k + 1)) (encode o (k + 1) n)
+unfolding encode
+written-more Big w f at n k h =
+    let above : at + (w - k) ≡ suc (at + (w - 1 - k)) = omega arith in
+    let here : at + (w - (k + 1)) ≡ at + (w - 1 - k) = omega arith in
+    rw (above, here, add-one k, digits-more k n, reverse-append (digits k n) (n / 256 ^ k % 256 ∷ []))
+    (sym (set-sets (reverse (digits k n)) f (suc (at + (w - 1 - k))) (at + (w - 1 - k)) (n / 256 ^ k % 256) (inl (omega arith))))
+written-more Little w f at n k h =
+    rw (add-one k, add-zero at, digits-more k n, sets-append (digits k n) (n / 256 ^ k % 256 ∷ []) f at, length-digits k n)
+
+-- after the last digit
+pub written-all : (o : Order) (w : ℕ) (f : List ℕ) (at n : ℕ) → sets f (at + lowStart o w w) (encode o w n) ≡ sets f at (encode o w n)
+written-all Big w f at n = let e : at + (w - w) ≡ at = omega arith in rw e
+written-all Little w f at n = rw add-zero
+
+-- what is left of the number
+pub left-more : (n k : ℕ) → n / 256 ^ k / 256 ≡ n / 256 ^ (k + 1)
+left-more n k = div-div-eq-div-mul n (256 ^ k) 256 ∙ ap (λ (x : ℕ). n / x) (sym (pow-suc 256 k) ∙ ap (λ (x : ℕ). 256 ^ x) (sym (add-one k)))

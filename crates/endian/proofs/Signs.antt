@@ -1,0 +1,105 @@
+-- Two's-complement words and their bits.
+--
+-- Rules on words are stated over the raw number, the 32 bits as an unsigned number. The laws `signed-..` say what such a rule means of the
+-- signed word: a bound below 2 ^ 31, a number below 2 ^ 31 and -1 are the same raw and signed, and a lower bound alone asks
+-- raw that the number is below 2 ^ 31 as well.
+-- Assumes nothing.
+use mathlib.Core.Path.{_≡_, refl, sym, ap, _∙_}
+use mathlib.Core.Bool.{Bool, true, false, false≢true}
+use mathlib.Core.Logic.{_↔_, _⊎_}
+use mathlib.Core.List.{List}
+use Prim.Native.Nat.{ℕ, zero, suc, _+_, _-_, _^_, _≤_, _<_, zero-le}
+use native.Mathlib.Nat.{zero-add}
+use native.Mathlib.Omega.{arith}
+use lib.Dec.{T, ltb, leb→le, le→leb}
+use lib.IntN.{ℤ, pos, negsuc, _-ℤ_, natAbs}
+use lib.ListN.{length}
+use lib.Seq.{sets}
+use lib.Signed.{nonNeg, leZ, mag, _≤ℤ_}
+use mir.Syntax.{w32}
+use mir.Val.{Fits, SFits, toZ, ofZ}
+use mir.Facts.{fits-ofZ, toZ-pos, toZ-ofZ}
+use borrow.Author.Tests.{ltb-true, ltb-false, le-ltb, le-leb}
+use Rattle.lists.specs.Lists.{Apart}
+use Rattle.endian.specs.Numbers.{encode}
+use Rattle.endian.specs.Words.{signedAt, encodeSigned}
+use Rattle.endian.specs.declared.Order.{Order}
+use Rattle.endian.proofs.Places.{read-back, number-frame}
+
+-- ---- the two readings of 32 bits
+
+toZ-high : (n : ℕ) → 2 ^ 31 ≤ n → toZ w32 n ≡ negsuc (4294967295 - n)
+toZ-high n h = rw (le-ltb n (2 ^ 31) h) (ap negsuc (omega arith))
+
+word-cases : (P : ℤ → Type 0) (n : ℕ) → (n < 2 ^ 31 → P (pos n)) → (2 ^ 31 ≤ n → P (negsuc (4294967295 - n))) → P (toZ w32 n)
+word-cases P n low high = step (ltb n (2 ^ 31)) refl
+  where
+    step : (b : Bool) → ltb n (2 ^ 31) ≡ b → P (toZ w32 n)
+    step true e = rw (toZ-pos w32 {n = n} (ltb-true n (2 ^ 31) e)) (low (ltb-true n (2 ^ 31) e))
+    step false e = rw (toZ-high n (ltb-false n (2 ^ 31) e)) (high (ltb-false n (2 ^ 31) e))
+
+-- ---- rules on raw numbers, and what they mean of the signed word
+
+-- no number that is not negative is at most a negative one
+not-below : (a k : ℕ) → pos a ≤ℤ negsuc k → ⊥
+not-below a k h = h .le
+
+pub signed-at-least : (low n : ℕ) → (pos low ≤ℤ toZ w32 n) ↔ ((low ≤ n) × (n < 2 ^ 31))
+signed-at-least low n =
+    word-cases (λ z. (pos low ≤ℤ z) ↔ ((low ≤ n) × (n < 2 ^ 31))) n
+    (λ small. (λ h. (leb→le low n (h .le), small), λ h. record { le = le→leb low n (h .0) }))
+    (λ large. (λ h. absurd (not-below low (4294967295 - n) h), λ h. let z : ⊥ = omega arith in absurd z))
+
+pub signed-within : (low high n : ℕ) → high < 2 ^ 31 → ((pos low ≤ℤ toZ w32 n) × (toZ w32 n ≤ℤ pos high)) ↔ ((low ≤ n) × (n ≤ high))
+signed-within low high n most =
+    word-cases (λ z. ((pos low ≤ℤ z) × (z ≤ℤ pos high)) ↔ ((low ≤ n) × (n ≤ high))) n
+    (λ small. (λ h. (leb→le low n (h .0 .le), leb→le n high (h .1 .le)), λ h. (record { le = le→leb low n (h .0) }, record { le = le→leb n high (h .1) })))
+    (λ large. (λ h. absurd (not-below low (4294967295 - n) (h .0)), λ h. let z : ⊥ = omega arith in absurd z))
+
+pub signed-equal : (m n : ℕ) → m < 2 ^ 31 → (toZ w32 n ≡ pos m) ↔ (n ≡ m)
+signed-equal m n most =
+    word-cases (λ z. (z ≡ pos m) ↔ (n ≡ m)) n
+    (λ small. (λ e. cc, λ e. ap pos e))
+    (λ large. (λ e. cc, λ e. let z : ⊥ = omega arith in absurd z))
+
+pub signed-minus-one : (n : ℕ) → n < 2 ^ 32 → (toZ w32 n ≡ negsuc 0) ↔ (n ≡ 4294967295)
+signed-minus-one n most =
+    word-cases (λ z. (z ≡ negsuc 0) ↔ (n ≡ 4294967295)) n
+    (λ small. (λ e. cc, λ e. let z : ⊥ = omega arith in absurd z))
+    (λ large. (λ e. let k : 4294967295 - n ≡ 0 = cc in omega arith, λ e. ap negsuc (omega arith)))
+
+-- ---- words that are written and read
+
+pub signed-back : (o : Order) (f : List ℕ) (at : ℕ) (v : ℤ) → at + 4 ≤ length f → SFits w32 v → signedAt o (sets f at (encodeSigned o v)) at ≡ v
+signed-back o f at v h s = ap (toZ w32) (read-back o 4 f at (ofZ w32 v) h (fits-ofZ s .fits)) ∙ toZ-ofZ s
+
+pub signed-frame : (o p : Order) (w : ℕ) (f : List ℕ) (at n b : ℕ) → Apart b 4 at w → signedAt p (sets f at (encode o w n)) b ≡ signedAt p f b
+signed-frame o p w f at n b h = ap (toZ w32) (number-frame o p w 4 f at n b h)
+
+-- a signed local is kept as its bits, and what is read of them is the number
+pub same-word : (z : ℤ) → mag z < 2 ^ 31 → toZ w32 (ofZ w32 z) ≡ z
+same-word z h = toZ-ofZ {w = w32} {z = z} (record { sfits = h })
+
+-- ---- the code's sums
+
+-- -1 - z, at both signs
+minus-pos : (k : ℕ) → negsuc 0 -ℤ pos k ≡ negsuc k
+minus-pos zero = refl
+minus-pos (suc k) = ap (λ (x : ℕ). negsuc (suc x)) (zero-add k)
+
+minus-neg : (k : ℕ) → negsuc 0 -ℤ negsuc k ≡ pos k
+minus-neg k = rw (le-ltb (suc k) 1 (omega arith)) (ap pos (omega arith))
+
+-- the word of 2 ^ 31 or more
+pub complement : (n : ℕ) → 2 ^ 31 ≤ n → n < 2 ^ 32 → negsuc 0 -ℤ toZ w32 (4294967295 - n) ≡ toZ w32 n
+complement n h l =
+    ap (λ (z : ℤ). negsuc 0 -ℤ z) (toZ-pos w32 {n = 4294967295 - n} (omega arith)) ∙ minus-pos (4294967295 - n) ∙ sym (toZ-high n h)
+
+-- the bits of a word that is not negative, and of one that is, whose magnitude -1 - z is the complement of its bits
+pub bits-pos : (z : ℤ) → SFits w32 z → leZ (pos 0) z ≡ true → T (nonNeg z) × Fits w32 (natAbs z) × (natAbs z ≡ ofZ w32 z)
+bits-pos (pos n) f e = (tt, record { fits = omega arith }, refl)
+bits-pos (negsuc n) f e = absurd (false≢true e)
+
+pub bits-neg : (z : ℤ) → SFits w32 z → leZ (pos 0) z ≡ false → (negsuc 0 -ℤ z ≡ pos (mag z)) × (mag z < 2 ^ 31) × (4294967295 - mag z ≡ ofZ w32 z)
+bits-neg (pos n) f e = absurd (false≢true (sym e ∙ le-leb 0 n zero-le))
+bits-neg (negsuc n) f e = (minus-neg n, f .sfits, omega arith)

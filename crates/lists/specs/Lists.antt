@@ -1,0 +1,37 @@
+-- Lists as the specifications build them: a part of a list, a list by its index, line by line, by a test; and what is
+-- written over the front of a lent output.
+-- Assumes nothing.
+use mathlib.Core.Bool.{Bool}
+use mathlib.Core.Logic.{_⊎_}
+use mathlib.Core.List.{List, [], _∷_, _++_}
+use Prim.Native.Nat.{ℕ, zero, suc, _+_, _≤_}
+use lib.ListN.{length, take, drop}
+use Rattle.lists.specs.Choices.{pick}
+
+-- the n places from a on and the m places from b on have none in common
+abbrev pub Apart : ℕ → ℕ → ℕ → ℕ → Type 0
+Apart a n b m = (a + n ≤ b) ⊎ (b + m ≤ a)
+
+module _ {A : Type 0} where
+  -- the n elements of a list from index a on
+  abbrev pub part : ℕ → ℕ → List A → List A
+  part a n l = take n (drop a l)
+
+  -- f 0, f 1 and so on, n of them
+  unfoldable pub listOf : (ℕ → A) → ℕ → List A
+  listOf f zero = []
+  listOf f (suc n) = listOf f n ++ f n ∷ []
+
+  -- the lists g 0, g 1 and so on, n of them, one behind the other
+  unfoldable pub linesOf : (ℕ → List A) → ℕ → List A
+  linesOf g zero = []
+  linesOf g (suc n) = linesOf g n ++ g n
+
+  -- the elements that pass a test, in their order
+  unfoldable pub keep : (A → Bool) → List A → List A
+  keep t [] = []
+  keep t (x ∷ l) = pick (t x) (x ∷ keep t l) (keep t l)
+
+  -- a lent output after a copy of l into it: its first places hold l, and what stands behind them is as it was
+  abbrev pub over : List A → List A → List A
+  over l out = l ++ drop (length l) out

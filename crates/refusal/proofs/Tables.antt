@@ -1,0 +1,134 @@
+-- Laws of tables of rules.
+-- Assumes nothing.
+use mathlib.Core.Path.{_≡_, refl, sym, ap, _∙_}
+use mathlib.Core.Bool.{Bool, true, false}
+use mathlib.Core.List.{List, [], _∷_, _++_}
+use Prim.Native.Nat.{ℕ}
+use native.Mathlib.Omega.{arith}
+use Rattle.lists.specs.Choices.{pick}
+use Rattle.refusal.specs.Rules.{Rule, refusalOf, judge, first, firstFault, chained, Hold, FirstFailing}
+use Rattle.refusal.specs.declared.Refusal.{Refusal}
+use Rattle.refusal.specs.declared.Verdict.{Verdict}
+use Rattle.refusal.specs.declared.Verdict.the-variants.{Pass, Fault}
+
+-- ---- two verdicts
+
+-- a fault is no pass
+pub fault-pass {ℓ} : {A : Type ℓ} (r : Refusal) → Fault r ≡ Pass → A
+fault-pass r e = let z : _≡_ {A = ℕ} 0 1 = cc in let y : ⊥ = omega arith in absurd y
+
+pub first-assoc : (a b c : Verdict) → first (first a b) c ≡ first a (first b c)
+unfolding first
+first-assoc Pass b c = refl
+first-assoc (Fault r) b c = refl
+
+pub first-pass : (a : Verdict) → first a Pass ≡ a
+unfolding first
+first-pass Pass = refl
+first-pass (Fault r) = refl
+
+-- the first of two verdicts passes where both do
+pub both-pass : (a b : Verdict) → first a b ≡ Pass → (a ≡ Pass) × (b ≡ Pass)
+unfolding first
+both-pass Pass b e = (refl, e)
+both-pass (Fault r) b e = fault-pass r e
+
+pub pass-both : (a b : Verdict) → a ≡ Pass → b ≡ Pass → first a b ≡ Pass
+unfolding first
+pass-both a b e f = rw (e, f)
+
+-- ---- one rule
+
+judge-holds : (r : Rule) → r .holds ≡ true → judge r ≡ Pass
+unfolding judge
+judge-holds r e = rw e
+
+judge-fails : (r : Rule) → r .holds ≡ false → judge r ≡ Fault (refusalOf r)
+unfolding judge
+judge-fails r e = rw e
+
+pub judge-pass : (r : Rule) → judge r ≡ Pass → r .holds ≡ true
+unfolding judge
+judge-pass r = step (r .holds)
+  where
+    step : (t : Bool) → pick t Pass (Fault (refusalOf r)) ≡ Pass → t ≡ true
+    step true e = refl
+    step false e = fault-pass (refusalOf r) e
+
+-- ---- a table
+
+-- a table passes exactly where every rule of it holds
+pub pass-hold : (rs : List Rule) → firstFault rs ≡ Pass → Hold rs
+unfolding firstFault
+pass-hold [] e = tt
+pass-hold (r ∷ rs) e =
+    let p : (judge r ≡ Pass) × (firstFault rs ≡ Pass) = both-pass (judge r) (firstFault rs) e in
+    (judge-pass r (p .0), pass-hold rs (p .1))
+
+pub hold-pass : (rs : List Rule) → Hold rs → firstFault rs ≡ Pass
+unfolding firstFault
+hold-pass [] h = refl
+hold-pass (r ∷ rs) h = pass-both (judge r) (firstFault rs) (judge-holds r (h .0)) (hold-pass rs (h .1))
+
+-- tables one behind the other
+pub firstFault-append : (rs ss : List Rule) → firstFault (rs ++ ss) ≡ first (firstFault rs) (firstFault ss)
+unfolding firstFault first
+firstFault-append [] ss = refl
+firstFault-append (r ∷ rs) ss =
+    ap (first (judge r)) (firstFault-append rs ss) ∙ sym (first-assoc (judge r) (firstFault rs) (firstFault ss))
+
+-- a table's fault is the refusal of its first rule that fails, and the other way round
+pub fault-first : (rs : List Rule) (f : Refusal) → firstFault rs ≡ Fault f → FirstFailing rs f
+unfolding firstFault first
+fault-first [] f e = fault-pass f (sym e)
+fault-first (r ∷ rs) f e = step (r .holds) refl (fault-first rs f)
+  where
+    step : (t : Bool) → r .holds ≡ t → (firstFault rs ≡ Fault f → FirstFailing rs f) → FirstFailing (r ∷ rs) f
+    step true h rec =
+        let x : FirstFailing rs f = rec (rw (judge-holds r h) at e) in
+        record {
+          before = r ∷ x .before;
+          failing = x .failing;
+          after = x .after;
+          split = ap (λ (l : List Rule). r ∷ l) (x .split);
+          hold = (h, x .hold);
+          fails = x .fails;
+          gives = x .gives;
+        }
+    step false h rec =
+        let q : Fault (refusalOf r) ≡ Fault f = rw (judge-fails r h) at e in
+        record { before = []; failing = r; after = rs; split = refl; hold = tt; fails = h; gives = cc }
+
+pub first-fault : (rs : List Rule) (f : Refusal) → FirstFailing rs f → firstFault rs ≡ Fault f
+unfolding firstFault first
+first-fault rs f x =
+    ap firstFault (x .split)
+    ∙ firstFault-append (x .before) (x .failing ∷ x .after)
+    ∙ rw (hold-pass (x .before) (x .hold), judge-fails (x .failing) (x .fails)) (ap Fault (sym (x .gives)))
+
+-- the rules of tables one behind the other
+pub hold-left : (rs ss : List Rule) → Hold (rs ++ ss) → Hold rs
+hold-left [] ss h = tt
+hold-left (r ∷ rs) ss h = (h .0, hold-left rs ss (h .1))
+
+pub hold-right : (rs ss : List Rule) → Hold (rs ++ ss) → Hold ss
+hold-right [] ss h = h
+hold-right (r ∷ rs) ss h = hold-right rs ss (h .1)
+
+pub hold-both : (rs ss : List Rule) → Hold rs → Hold ss → Hold (rs ++ ss)
+hold-both [] ss h k = k
+hold-both (r ∷ rs) ss h k = (h .0, hold-both rs ss (h .1) k)
+
+-- the rules applied one after another say what the table says, after what came before it
+chained-first : (v : Verdict) (rs : List Rule) → chained v rs ≡ first v (firstFault rs)
+unfolding chained firstFault
+chained-first v [] = sym (first-pass v)
+chained-first v (r ∷ rs) = chained-first (first v (judge r)) rs ∙ first-assoc v (judge r) (firstFault rs)
+
+-- what a chain of calls of `check` gives is what the table says: after a verdict, and from the start
+pub by-chain : (v : Verdict) (rs : List Rule) {r : Verdict} → r ≡ chained v rs → r ≡ first v (firstFault rs)
+by-chain v rs e = e ∙ chained-first v rs
+
+pub by-table : (rs : List Rule) {r : Verdict} → r ≡ chained Pass rs → r ≡ firstFault rs
+unfolding first
+by-table rs e = e ∙ chained-first Pass rs

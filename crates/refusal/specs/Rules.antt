@@ -1,0 +1,58 @@
+-- Tables of rules. A rule is a test, and the refusal that is given where the test fails. The answer of a table is the first
+-- rule that fails, in the table's order.
+-- Assumes nothing.
+use mathlib.Core.Path.{_≡_}
+use mathlib.Core.Bool.{Bool, true, false}
+use mathlib.Core.List.{List, [], _∷_, _++_}
+use Prim.Native.Nat.{ℕ}
+use Rattle.lists.specs.Choices.{pick}
+use Rattle.refusal.specs.declared.Refusal.{Refusal}
+use Rattle.refusal.specs.declared.Verdict.{Verdict}
+use Rattle.refusal.specs.declared.Verdict.the-variants.{Pass, Fault}
+
+-- a row of a table: the test that must hold, and the number and place of the refusal where it does not
+pub record Rule : Type 0 where
+  pub holds : Bool
+  pub number : ℕ
+  pub place : ℕ
+
+abbrev pub rule : Bool → ℕ → ℕ → Rule
+rule holds number place = record { holds = holds; number = number; place = place }
+
+-- the refusal that a rule gives
+abbrev pub refusalOf : Rule → Refusal
+refusalOf r = record { number = r .number; place = r .place }
+
+-- what one rule says
+unfoldable pub judge : Rule → Verdict
+judge r = pick (r .holds) Pass (Fault (refusalOf r))
+
+-- the first fault of two verdicts, or a pass
+unfoldable pub first : Verdict → Verdict → Verdict
+first Pass v = v
+first (Fault r) v = Fault r
+
+-- what a table says: the first of its rules that fails
+unfoldable pub firstFault : List Rule → Verdict
+firstFault [] = Pass
+firstFault (r ∷ rs) = first (judge r) (firstFault rs)
+
+-- the rules applied one after another to a verdict, as code applies them
+unfoldable pub chained : Verdict → List Rule → Verdict
+chained v [] = v
+chained v (r ∷ rs) = chained (first v (judge r)) rs
+
+-- every rule of a table holds
+abbrev pub Hold : List Rule → Type 0
+Hold [] = Unit {0}
+Hold (r ∷ rs) = (r .holds ≡ true) × Hold rs
+
+-- a table's first rule that fails, with the rules before it, which hold
+pub record FirstFailing (table : List Rule) (refusal : Refusal) : Type 0 where
+  pub before : List Rule
+  pub failing : Rule
+  pub after : List Rule
+  pub split : table ≡ before ++ failing ∷ after
+  pub hold : Hold before
+  pub fails : failing .holds ≡ false
+  pub gives : refusal ≡ refusalOf failing

@@ -1,0 +1,80 @@
+// Refusals, the verdict that rules come to, and the tests that rules are made of.
+ghost use mathlib.Core.Path.{_≡_};
+ghost use Rattle.lists.specs.Choices.{both, either};
+ghost use Rattle.refusal.specs.Rules.{rule, judge, first};
+ghost use Rattle.refusal.specs.Tests.{within};
+
+// What a call answers where it refuses: a number of document 01's table, and the place that the table gives for it.
+pub struct Refusal {
+    pub number: u32,
+    pub place: u64,
+}
+
+// The file is shorter than 256 (AREA), 44 (GRID) or 16,384 (MD) bytes. Place 0.
+pub const SHORT_FILE: u32 = 1;
+// AREA word 2 is 4 in neither byte order. Place 2.
+pub const NO_BYTE_ORDER: u32 = 2;
+// A count is outside its bounds. The place is its word.
+pub const COUNT: u32 = 3;
+// A word is unequal to its rule, and the place is the word; or a band map is unusable, and the place is 19.
+pub const RULE: u32 = 4;
+// Something is outside the file, or over another part. The place is its word.
+pub const OUTSIDE: u32 = 5;
+// A grid slot is empty, a block is absent, or a prefix region has length 0. Place 0.
+pub const ABSENT: u32 = 6;
+// There is no such line, element, slot, band, grid, point, field or key, or the layout is of another kind. Place 0.
+pub const NO_SUCH: u32 = 7;
+// A sample to store does not fit the bytes of a sample. Place 0.
+pub const TOO_LARGE: u32 = 8;
+// The layout is stale: opening these bytes does not give it. Place 0.
+pub const STALE: u32 = 9;
+// A lent output is too short. Place 0.
+pub const SHORT_OUTPUT: u32 = 10;
+// A word is no date, or no time of day. Place 0.
+pub const NO_DATE: u32 = 11;
+
+// What the rules that were applied so far say: they all hold, or the first that does not gives this refusal.
+pub enum Verdict {
+    Pass,
+    Fault(Refusal),
+}
+
+// One rule more: a fault stays as it is, and after a pass a rule that does not hold is a fault with its own number and place.
+pub fn check(verdict: Verdict, holds: bool, number: u32, place: usize) -> Verdict
+    ensures { λ r. ⌜ r ≡ first verdict (judge (rule holds number place)) ⌝ }
+{
+    match verdict {
+        Verdict::Fault(refusal) => Verdict::Fault(refusal),
+        Verdict::Pass => {
+            if holds {
+                Verdict::Pass
+            } else {
+                Verdict::Fault(Refusal {
+                    number: number,
+                    place: place as u64,
+                })
+            }
+        }
+    }
+}
+
+// Whether a number is at least `low` and at most `high`.
+pub fn within(low: u32, high: u32, n: u32) -> bool
+    ensures { λ r. ⌜ r ≡ within low high n ⌝ }
+{
+    low <= n && n <= high
+}
+
+// Whether both tests hold. Both have been made when it is called.
+pub fn and(a: bool, b: bool) -> bool
+    ensures { λ r. ⌜ r ≡ both a b ⌝ }
+{
+    a && b
+}
+
+// Whether one of two tests holds, or both do. Both have been made when it is called.
+pub fn or(a: bool, b: bool) -> bool
+    ensures { λ r. ⌜ r ≡ either a b ⌝ }
+{
+    a || b
+}
