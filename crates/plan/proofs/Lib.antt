@@ -1,0 +1,6 @@
+pub mod Orders
+pub mod Plans
+pub mod Runs
+pub mod Claims
+pub mod Formats
+pub mod Calls

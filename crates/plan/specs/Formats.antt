@@ -1,0 +1,65 @@
+-- Stores that carry a layout. A store is refused as stale unless opening the file, by the kind, byte order and grid number of its layout,
+-- gives that very layout; what it does then depends on the store alone. A key is what demand 3 calls one kind and one byte order.
+-- Assumes nothing.
+use mathlib.Core.Path.{_≡_}
+use mathlib.Core.Bool.{Bool, true}
+use mathlib.Core.Logic.{_↔_}
+use mathlib.Core.List.{List}
+use Prim.Native.Nat.{ℕ, _+_, _*_, _≤_}
+use lib.ListN.{length}
+use lib.Seq.{sets}
+use Rattle.lists.specs.Choices.{pick}
+use Rattle.plan.specs.Plans.{Plan, write, refuse, Holds}
+use Rattle.plan.specs.Stores.{System}
+
+pub record Format (Store Key Opened Answer Value : Type 0) : Type 0 where
+  -- the kind and byte order, and the grid number, of the store's layout
+  pub key : Store → Key
+  pub grid : Store → ℕ
+  -- what opening a file by a key and a grid number answers
+  pub open-as : List ℕ → Key → ℕ → Opened
+  -- the answer of opening that is the store's layout, and whether an answer is that very one
+  pub layout : Store → Opened
+  pub same : Store → Opened → Bool
+  -- what a store with a stale layout is answered
+  pub stale : Answer
+  -- what a store with a fresh layout does
+  pub within : Store → Plan Answer
+  -- the single read of a store's place with its layout, and its answer where the place holds the store's number
+  pub read : List ℕ → Store → Value
+  pub number : Store → Value
+
+module _ {Store Key Opened Answer Value : Type 0} (F : Format Store Key Opened Answer Value) where
+  -- opening the file gives the store's layout
+  abbrev pub Fresh : List ℕ → Store → Type 0
+  Fresh f s = F .open-as f (F .key s) (F .grid s) ≡ F .layout s
+
+  unfoldable pub plan : List ℕ → Store → Plan Answer
+  plan f s = pick (F .same s (F .open-as f (F .key s) (F .grid s))) (F .within s) (refuse (F .stale))
+
+  -- the stores whose layout is of key k; opening answers for every grid number
+  abbrev pub system : Key → System Store Answer (ℕ → Opened) Value
+  system k =
+      record {
+        Fit = λ s. F .key s ≡ k;
+        plan = plan;
+        opening = λ f g. F .open-as f k g;
+        read = F .read;
+        number = F .number;
+      }
+
+  -- What a format owes. Of a store with a fresh layout that writes b at address a:
+  pub record Owed : Type 0 where
+    -- whether an answer is the store's layout is told exactly
+    pub exact : (s : Store) (x : Opened) → (F .same s x ≡ true) ↔ (x ≡ F .layout s)
+    -- the place is inside the file
+    pub inside : (f : List ℕ) (s : Store) {r : Answer} {a : ℕ} {b : List ℕ} → Fresh f s → F .within s ≡ write r a b → a + length b ≤ length f
+    -- opening answers as before, for every grid number
+    pub frame : (f : List ℕ) (s : Store) {r : Answer} {a : ℕ} {b : List ℕ} → Fresh f s → F .within s ≡ write r a b → (g : ℕ) → F .open-as (sets f a b) (F .key s) g ≡ F .open-as f (F .key s) g
+    -- all places of one file and key are equally wide and stand at multiples of the width from one base, so that two of them
+    -- are equal or share no byte
+    pub base : List ℕ → Key → ℕ
+    pub width : List ℕ → Key → ℕ
+    pub lattice : (f : List ℕ) (s : Store) {r : Answer} {a : ℕ} {b : List ℕ} → Fresh f s → F .within s ≡ write r a b → (j : ℕ) × (a ≡ base f (F .key s) + j * width f (F .key s)) × (length b ≡ width f (F .key s))
+    -- where the place holds b, the read answers the store's number
+    pub reads : (f : List ℕ) (s : Store) {r : Answer} {a : ℕ} {b : List ℕ} → Fresh f s → F .within s ≡ write r a b → Holds f a b → F .read f s ≡ F .number s

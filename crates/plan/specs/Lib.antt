@@ -1,0 +1,5 @@
+pub mod Plans
+pub mod Stores
+pub mod Claims
+pub mod Formats
+pub mod Calls

@@ -1,0 +1,69 @@
+-- Stores one after another.
+-- Assumes nothing.
+use mathlib.Core.Path.{_≡_}
+use mathlib.Core.List.{List, [], _∷_, filter, List·Memᴰ, List·Permᴰ}
+use Prim.Native.Nat.{ℕ, _+_, _≤_, _<_}
+use lib.ListN.{length}
+use lib.Seq.{sets}
+use Rattle.plan.specs.Plans.{Plan, write, answer, after, outcome, SucceedsAt, succeedsAt, Holds}
+
+-- an order of a list: the same members, each as often (a permutation)
+abbrev pub Order : {X : Type 0} → List X → List X → Type 0
+Order l o = List·Permᴰ l o
+
+-- every member of a list
+abbrev pub All : {X : Type 0} → (X → Type 0) → List X → Type 0
+All {X} P l = (x : X) → List·Memᴰ x l → P x
+
+-- The stores of a file format. What a store plans on a file, what opening a file answers, what the single read of a store's place
+-- with the store's layout answers, and that answer where the place holds the store's number. `Fit` says which stores are meant:
+-- those whose layout is of the one kind and byte order.
+pub record System (Store Answer Opened Value : Type 0) : Type 1 where
+  pub Fit : Store → Type 0
+  pub plan : List ℕ → Store → Plan Answer
+  pub opening : List ℕ → Opened
+  pub read : List ℕ → Store → Value
+  pub number : Store → Value
+
+module _ {Store Answer Opened Value : Type 0} (S : System Store Answer Opened Value) where
+  -- the answer that a store gets alone on a file
+  abbrev pub alone : List ℕ → Store → Answer
+  alone f s = answer (S .plan f s)
+
+  -- Stores made one after another, from left to right: the first gets the file as it came, each later one the file as the store
+  -- before it left it. What the file is in the end, and what each store is answered.
+  unfoldable pub fileAfter : List ℕ → List Store → List ℕ
+  fileAfter f [] = f
+  fileAfter f (s ∷ l) = fileAfter (after f (S .plan f s)) l
+
+  unfoldable pub answers : List ℕ → List Store → List Answer
+  answers f [] = []
+  answers f (s ∷ l) = answer (S .plan f s) ∷ answers (after f (S .plan f s)) l
+
+  -- the stores of a list that succeed at an address, alone on a file
+  unfoldable pub storesAt : List ℕ → ℕ → List Store → List Store
+  storesAt f a l = filter {p = λ s. SucceedsAt a (S .plan f s)} (λ s. succeedsAt a (S .plan f s)) l
+
+  -- no two stores of a list that succeed, alone on a file, have the same address
+  abbrev pub Distinct : List ℕ → List Store → Type 0
+  Distinct f [] = Unit {0}
+  Distinct f (s ∷ l) = All (λ t. (a : ℕ) → SucceedsAt a (S .plan f s) → SucceedsAt a (S .plan f t) → ⊥) l × Distinct f l
+
+  -- Functions that store, called one after another from the file f to the file h, by what their contracts say: the call of the
+  -- store s on f answers r and leaves g.
+  pub data Run : List ℕ → List Store → List Answer → List ℕ → Type 0 where
+    done : {f h : List ℕ} → h ≡ f → Run f [] [] h
+    call : {f g h : List ℕ} {s : Store} {l : List Store} {r : Answer} {rs : List Answer} → (r, g) ≡ outcome f (S .plan f s) → Run g l rs h → Run f (s ∷ l) (r ∷ rs) h
+
+  -- What the order of stores rests on. Each is a law of one or two stores on one file.
+  pub record Laws : Type 0 where
+    -- a store's plan depends on the file through what opening answers and the file's length alone
+    pub by-opening : (f g : List ℕ) (s : Store) → S .Fit s → S .opening f ≡ S .opening g → length f ≡ length g → S .plan f s ≡ S .plan g s
+    -- a place is inside the file
+    pub inside : (f : List ℕ) (s : Store) {r : Answer} {a : ℕ} {b : List ℕ} → S .Fit s → S .plan f s ≡ write r a b → a + length b ≤ length f
+    -- a store leaves what opening answers
+    pub opens : (f : List ℕ) (s : Store) {r : Answer} {a : ℕ} {b : List ℕ} → S .Fit s → S .plan f s ≡ write r a b → S .opening (sets f a b) ≡ S .opening f
+    -- two places that share a byte have the same address
+    pub meet : (f : List ℕ) (s t : Store) (i : ℕ) {r q : Answer} {a c : ℕ} {b d : List ℕ} → S .Fit s → S .Fit t → S .plan f s ≡ write r a b → S .plan f t ≡ write q c d → a ≤ i → i < a + length b → c ≤ i → i < c + length d → a ≡ c
+    -- a place that holds a store's bytes reads back as its number
+    pub reads : (f : List ℕ) (s : Store) {r : Answer} {a : ℕ} {b : List ℕ} → S .Fit s → S .plan f s ≡ write r a b → Holds f a b → S .read f s ≡ S .number s
