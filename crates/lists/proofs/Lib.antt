@@ -5,3 +5,4 @@ pub mod Stores
 pub mod Built
 pub mod Filled
 pub mod Kept
+pub mod Every

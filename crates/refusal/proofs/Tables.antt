@@ -2,11 +2,12 @@
 -- Assumes nothing.
 use mathlib.Core.Path.{_≡_, refl, sym, ap, _∙_}
 use mathlib.Core.Bool.{Bool, true, false}
+use mathlib.Core.Logic.{_↔_}
 use mathlib.Core.List.{List, [], _∷_, _++_}
 use Prim.Native.Nat.{ℕ}
 use native.Mathlib.Omega.{arith}
 use Rattle.lists.specs.Choices.{pick}
-use Rattle.refusal.specs.Rules.{Rule, refusalOf, judge, first, firstFault, chained, Hold, FirstFailing}
+use Rattle.refusal.specs.Rules.{Rule, refusalOf, judge, first, firstFault, answered, Tells, chained, Hold, Give, FirstFailing}
 use Rattle.refusal.specs.declared.Refusal.{Refusal}
 use Rattle.refusal.specs.declared.Verdict.{Verdict}
 use Rattle.refusal.specs.declared.Verdict.the-variants.{Pass, Fault}
@@ -106,6 +107,19 @@ first-fault rs f x =
     ∙ firstFault-append (x .before) (x .failing ∷ x .after)
     ∙ rw (hold-pass (x .before) (x .hold), judge-fails (x .failing) (x .fails)) (ap Fault (sym (x .gives)))
 
+-- where every rule gives the same refusal, that is the fault
+pub same-fault : (rs : List Rule) (f r : Refusal) → Give f rs → firstFault rs ≡ Fault r → r ≡ f
+unfolding firstFault first
+same-fault [] f r g e = fault-pass r (sym e)
+same-fault (q ∷ rs) f r g e = step (q .holds) refl (same-fault rs f r (g .1))
+  where
+    step : (t : Bool) → q .holds ≡ t → (firstFault rs ≡ Fault r → r ≡ f) → r ≡ f
+    step true h rec = rec (rw (judge-holds q h) at e)
+    step false h rec =
+        let x : Fault (refusalOf q) ≡ Fault r = rw (judge-fails q h) at e in
+        let y : refusalOf q ≡ r = cc in
+        sym y ∙ g .0
+
 -- the rules of tables one behind the other
 pub hold-left : (rs ss : List Rule) → Hold (rs ++ ss) → Hold rs
 hold-left [] ss h = tt
@@ -132,3 +146,37 @@ by-chain v rs e = e ∙ chained-first v rs
 pub by-table : (rs : List Rule) {r : Verdict} → r ≡ chained Pass rs → r ≡ firstFault rs
 unfolding first
 by-table rs e = e ∙ chained-first Pass rs
+
+-- ---- the answer of a table
+
+module _ {Value Answer : Type 0} {value : Value → Answer} {refused : Refusal → Answer} (T : Tells value refused) (rs : List Rule) (v : Value) where
+  -- a call answers a value exactly where every rule holds, and then the one that the definition gives
+  pub value-exactly : (w : Value) → (answered value refused (firstFault rs) v ≡ value w) ↔ (Hold rs × (w ≡ v))
+  value-exactly w = (λ e. step (firstFault rs) refl e, λ h. rw (hold-pass rs (h .0)) (ap value (sym (h .1))))
+    where
+      step : (x : Verdict) → firstFault rs ≡ x → answered value refused x v ≡ value w → Hold rs × (w ≡ v)
+      step Pass p e = (pass-hold rs p, sym (T .values e))
+      step (Fault r) p e = absurd (T .apart (sym e))
+
+  -- and a refusal exactly where a rule fails, and then that of the first
+  pub refusal-exactly : (f : Refusal) → (answered value refused (firstFault rs) v ≡ refused f) ↔ FirstFailing rs f
+  refusal-exactly f = (λ e. step (firstFault rs) refl e, λ x. rw (first-fault rs f x))
+    where
+      step : (x : Verdict) → firstFault rs ≡ x → answered value refused x v ≡ refused f → FirstFailing rs f
+      step Pass p e = absurd (T .apart e)
+      step (Fault r) p e = fault-first rs f (p ∙ ap Fault (T .refusals e))
+
+  pub refused-same : (f r : Refusal) → Give f rs → answered value refused (firstFault rs) v ≡ refused r → r ≡ f
+  refused-same f r g e = same-fault rs f r g (first-fault rs r (refusal-exactly r .0 e))
+
+-- ---- answers that say exactly whether a value is the one for what was asked
+
+module _ {Value Answer Asked : Type 0} {value : Value → Answer} {refused : Refusal → Answer} (T : Tells value refused)
+    (f : Asked → Answer) (Is : Asked → Value → Type 0) (exactly : (x : Asked) (v : Value) → (f x ≡ value v) ↔ Is x v) where
+  -- there is at most one
+  pub exactly-one : (x : Asked) (v w : Value) → Is x v → Is x w → v ≡ w
+  exactly-one x v w p q = T .values (sym (exactly x v .1 p) ∙ exactly x w .1 q)
+
+  -- where it is refused there is none
+  pub exactly-none : (x : Asked) (r : Refusal) → f x ≡ refused r → (v : Value) → ¬ Is x v
+  exactly-none x r e v p = T .apart (sym (exactly x v .1 p) ∙ e)

@@ -37,6 +37,18 @@ unfoldable pub firstFault : List Rule → Verdict
 firstFault [] = Pass
 firstFault (r ∷ rs) = first (judge r) (firstFault rs)
 
+-- The answer of a call, for an answer type with one case for a value and one for a refusal: the value where the verdict is a pass,
+-- else the refusal with its number and place.
+abbrev pub answered : {Value Answer : Type 0} → (Value → Answer) → (Refusal → Answer) → Verdict → Value → Answer
+answered value refused Pass v = value v
+answered value refused (Fault r) v = refused r
+
+-- an answer type tells its values apart, its refusals apart, and a value from a refusal
+pub record Tells {Value Answer : Type 0} (value : Value → Answer) (refused : Refusal → Answer) : Type 0 where
+  pub values : {v w : Value} → value v ≡ value w → v ≡ w
+  pub refusals : {r s : Refusal} → refused r ≡ refused s → r ≡ s
+  pub apart : {v : Value} {r : Refusal} → value v ≡ refused r → ⊥
+
 -- the rules applied one after another to a verdict, as code applies them
 unfoldable pub chained : Verdict → List Rule → Verdict
 chained v [] = v
@@ -46,6 +58,11 @@ chained v (r ∷ rs) = chained (first v (judge r)) rs
 abbrev pub Hold : List Rule → Type 0
 Hold [] = Unit {0}
 Hold (r ∷ rs) = (r .holds ≡ true) × Hold rs
+
+-- every rule of a table gives the same refusal
+abbrev pub Give : Refusal → List Rule → Type 0
+Give f [] = Unit {0}
+Give f (r ∷ rs) = (refusalOf r ≡ f) × Give f rs
 
 -- a table's first rule that fails, with the rules before it, which hold
 pub record FirstFailing (table : List Rule) (refusal : Refusal) : Type 0 where

@@ -1,0 +1,49 @@
+-- `calendar::time_of_number` meets its contract: the chain of checks is the table of rules, and its verdict picks the answer.
+-- Assumes nothing.
+use mathlib.Core.Path.{_≡_, sym, _∙_}
+use borrow.Author.Needs.{needs}
+use Rattle.refusal.specs.Rules.{firstFault, chained}
+use Rattle.refusal.proofs.Tables.{by-table}
+use Rattle.calendar.specs.Times.{timeRules, timeOfNumber}
+use Rattle.calendar.proofs.time_of_number.Statement.{statement}
+use Rattle.calendar.proofs.time_of_number.Tie as tie
+
+check-requires : tie.Need-check-requires
+check-requires c κs = search needs
+
+check-requires-2 : tie.Need-check-requires-2
+check-requires-2 c κs = search needs
+
+check-requires-3 : tie.Need-check-requires-3
+check-requires-3 c κs = search needs
+
+enum-told : tie.Need-enum-told
+enum-told c = search needs
+
+enum-known-refusal : tie.Need-enum-known-refusal
+enum-known-refusal c = search needs
+
+-- what the three checks say
+verdict : (c : tie.After-check3) → c .check3 .result ≡ firstFault (timeRules (c .before .before .before .args .n))
+unfolding timeRules chained
+verdict c = by-table _ (cc)
+
+returns : tie.Need-returns
+unfolding timeOfNumber
+returns c = rw (sym (verdict (c .before .before)) ∙ c .enum-told .given .1)
+
+returns-2 : tie.Need-returns-2
+unfolding timeOfNumber
+returns-2 c = rw (sym (verdict (c .before .before .before)) ∙ c .before .refusal .given .1)
+
+pub time-of-number-spec : {M : Type 1} → statement M
+time-of-number-spec =
+    tie.close
+    (tie.spec
+    check-requires
+    check-requires-2
+    check-requires-3
+    enum-told
+    enum-known-refusal
+    returns
+    returns-2)
