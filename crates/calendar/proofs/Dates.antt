@@ -1,26 +1,20 @@
 -- A date word's answer is the only date of the Gregorian calendar with that yyyddd, and a word that is refused has none.
 -- Assumes nothing.
-use mathlib.Core.Path.{_≡_, refl, sym, ap, ap₂, subst, _∙_}
-use mathlib.Core.Bool.{Bool, true}
+use mathlib.Core.Path.{_≡_, refl, sym, ap, ap₂, _∙_}
+use mathlib.Core.Bool.{Bool}
 use mathlib.Core.Logic.{_↔_}
-use mathlib.Core.List.{List}
-use Prim.Native.Nat.{ℕ, suc, _+_, _-_, _*_, _/_, _%_, _≤_, _<_}
-use native.Mathlib.Numerals.{add-one}
+use Prim.Native.Nat.{ℕ, suc, _+_, _-_, _*_, _≤_, _<_}
 use native.Mathlib.Omega.{arith}
-use lib.Dec.{leb}
 use lib.IntN.{ℤ, pos, negsuc, pos-ne-negsuc}
 use lib.ListN.{getD}
 use borrow.Author.Tests.{leb-true, le-leb}
-use Rattle.refusal.specs.Rules.{Hold, Tells, firstFault, answered}
-use Rattle.refusal.specs.Tests.{within}
+use Rattle.refusal.specs.Rules.{Hold, Tells}
 use Rattle.refusal.specs.declared.Refusal.{Refusal}
-use Rattle.refusal.specs.declared.Verdict.the-variants.{Pass}
 use Rattle.refusal.proofs.Exactness.{within-exactly}
 use Rattle.refusal.proofs.Tables.{value-exactly, refused-same, exactly-one, exactly-none}
-use Rattle.calendar.specs.Gregorian.{leap, monthLengths, daysBefore, yearLength, IsDate, dayOfYear, lastBefore, monthOf, dateIn}
+use Rattle.calendar.specs.Gregorian.{leap, monthLengths, daysBefore, yearLength, IsDate, dayOfYear, monthOf, dateIn}
 use Rattle.calendar.specs.Dates.{yearOf, dayOf, dateRules, dateOfNumber, dateOf, DateWord}
 use Rattle.calendar.specs.declared.Date.{Date}
-use Rattle.calendar.specs.declared.DateAnswer.{DateAnswer}
 use Rattle.calendar.specs.declared.DateAnswer.the-variants.{On, Refused}
 use Rattle.calendar.proofs.Months.{days-mono, year-most, month-only, Lies, month-lies}
 

@@ -1,29 +1,30 @@
 -- Laws of the months of a year: the table of days before each month, and the month in which a day of the year lies.
 -- Assumes nothing.
-use mathlib.Core.Path.{_≡_, refl, sym, ap, ap₂, _∙_}
+use mathlib.Core.Path.{_≡_, refl, sym, ap₂, _∙_}
 use mathlib.Core.Bool.{Bool, true, false}
-use mathlib.Core.Logic.{_⊎_, ⊎-elim}
+use mathlib.Core.Logic.{⊎-elim}
 use mathlib.Core.List.{List, [], _∷_}
 use Prim.Native.Nat.{ℕ, zero, suc, _+_, _-_, _%_, _≤_, _<_}
 use native.Mathlib.Nat.{eq-or-lt-of-le, le-of-suc-le-suc}
 use native.Mathlib.Omega.{arith}
 use lib.Dec.{leb, ltb, eqb}
-use lib.ListN.{length, getD}
+use lib.ListN.{getD}
 use borrow.Author.Tests.{eqb-true, le-leb, lt-leb, lt-ltb, le-ltb, ltb-true, ltb-false}
 use Rattle.lists.specs.Choices.{pick}
-use Rattle.lists.proofs.Every.{every, every-at}
+use Rattle.lists.proofs.Every.{every-at}
 use Rattle.calendar.specs.Gregorian.{daysBefore, yearLength, lastBefore}
 
 -- ---- the table
 
--- the table of the code: common years, and then leap years
+-- the table of the code: a common year, and then a leap year
 abbrev pub table : List ℕ
 table =
     0 ∷ 31 ∷ 59 ∷ 90 ∷ 120 ∷ 151 ∷ 181 ∷ 212 ∷ 243 ∷ 273 ∷ 304 ∷ 334
     ∷ 0 ∷ 31 ∷ 60 ∷ 91 ∷ 121 ∷ 152 ∷ 182 ∷ 213 ∷ 244 ∷ 274 ∷ 305 ∷ 335
     ∷ []
 
--- its rule: entry k holds the days before the month k % 12, of a leap year from entry 12 on
+-- its rule: entry k holds the days before the month k % 12, of a common year below entry 12 and of a leap year from there on. It is
+-- one test, computed over the whole table.
 rightEntry : ℕ → ℕ → Bool
 rightEntry k x = eqb x (daysBefore (leb 12 k) (k % 12))
 

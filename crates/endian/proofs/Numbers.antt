@@ -1,13 +1,13 @@
 -- Laws of numbers and their bytes, each over the order and the width. Reading 1, 2 and 4 bytes in either order rests on `horner`.
 -- Assumes nothing.
 use mathlib.Core.Path.{_≡_, refl, sym, ap, ap₂, subst, _∙_}
-use mathlib.Core.List.{List, [], _∷_, _++_, reverse, reverse-append, reverse-reverse}
+use mathlib.Core.List.{List, [], _∷_, _++_, reverse-append, reverse-reverse}
 use Prim.Native.Nat.{ℕ, zero, suc, _+_, _-_, _*_, _/_, _%_, _^_, _≤_, _<_}
 use native.Mathlib.Nat.{lt-of-lt-of-le, pow-le-pow-right, mul-assoc, mul-comm, pow-suc, pow-succ', one-le-pow, div-one, div-div-eq-div-mul, mod-lt, mod-eq-of-lt}
 use native.Mathlib.Omega.{arith}
 use lib.Arith.{mod-mul}
 use lib.Dec.{lit<}
-use lib.ListN.{length, getD, drop, length-append, length-drop, length-reverse, List·getD-eq-default}
+use lib.ListN.{length, getD, drop, length-drop, length-reverse, List·getD-eq-default}
 use lib.Seq.{drop-cons, getD-drop}
 use native.Mathlib.Decide.{decLt}
 use Rattle.lists.proofs.Reversed.{getD-reverse}
@@ -48,13 +48,13 @@ value-fits ds r h l =
 pub length-digits : (w n : ℕ) → length (digits w n) ≡ w
 unfolding digits
 length-digits zero n = refl
-length-digits (suc w) n = ap suc (length-digits w (n / 256))
+length-digits (suc w) n = ap suc (length-digits w _)
 
 pub digits-bytes : (w n : ℕ) → Bytes (digits w n)
 unfolding digits
 digits-bytes zero n i = lit< tt
 digits-bytes (suc w) n zero = mod-lt n (lit< tt)
-digits-bytes (suc w) n (suc i) = digits-bytes w (n / 256) i
+digits-bytes (suc w) n (suc i) = digits-bytes w _ i
 
 -- one digit more
 pub digits-more : (w n : ℕ) → digits (suc w) n ≡ digits w n ++ n / 256 ^ w % 256 ∷ []

@@ -3,7 +3,7 @@
 use mathlib.Core.Path.{_≡_, refl, sym, ap, subst, _∙_}
 use mathlib.Core.Logic.{_⊎_, inl, inr, ⊎-elim}
 use mathlib.Core.List.{List, [], _∷_, _++_, reverse, reverse-append}
-use Prim.Native.Nat.{ℕ, zero, suc, _+_, _-_, _/_, _%_, _^_, _≤_, _<_}
+use Prim.Native.Nat.{ℕ, suc, _+_, _-_, _/_, _%_, _^_, _≤_, _<_}
 use native.Mathlib.Decide.{decLt}
 use native.Mathlib.Nat.{add-zero, div-div-eq-div-mul, lt-of-lt-of-le, pow-le-pow-right, pow-suc}
 use native.Mathlib.Numerals.{add-one}
@@ -14,7 +14,7 @@ use lib.Seq.{sets, length-sets}
 use Rattle.lists.specs.Lists.{Apart, part}
 use Rattle.lists.proofs.Parts.{length-part, getD-part, part-suc, part-part, part-left, part-right, part-same}
 use Rattle.lists.proofs.Stores.{Where, below, inside, above, where-is, sets-below, sets-above, sets-inside, part-stored, part-apart, set-sets, sets-append, sets-comm, sets-last}
-use Rattle.endian.specs.Numbers.{digits, ordered, place, decode, encode, digitsAt, withByte, numberAt, Bytes}
+use Rattle.endian.specs.Numbers.{digits, place, decode, encode, digitsAt, withByte, numberAt, Bytes}
 use Rattle.endian.specs.declared.Order.{Order}
 use Rattle.endian.specs.declared.Order.the-variants.{Big, Little}
 use Rattle.endian.proofs.Numbers.{length-ordered, ordered-bytes, digit-at, place-inside, length-digits, digits-more, length-encode, encode-bytes, decode-encode, decode-encode-low, decode-bound, decode-more}

@@ -1,7 +1,7 @@
 -- What a loop that fills a lent output leaves behind. After i turns the output's first places hold what the turns stored, and
 -- the rest is as it was: `listOf f i ++ drop i out`, or for lines of n elements `linesOf g i ++ drop (i * n) out`.
 -- Assumes nothing.
-use mathlib.Core.Path.{_≡_, refl, sym, ap, _∙_}
+use mathlib.Core.Path.{_≡_, sym, ap, _∙_}
 use mathlib.Core.List.{List, [], _∷_, _++_, append-assoc, append-nil}
 use Prim.Native.Nat.{ℕ, suc, _+_, _*_, _≤_, _<_}
 use native.Mathlib.Nat.{suc-mul}

@@ -5,8 +5,8 @@ use mathlib.Core.Logic.{_⊎_, inl, inr}
 use mathlib.Core.List.{List, [], _∷_, map, List·Memᴰ, List·Memᴰ·head, List·Memᴰ·tail, List·Memᴰ·not-nil, List·Memᴰ·append-cases}
 use Prim.Native.Nat.{ℕ}
 use lib.ListN.{length}
-use Rattle.plan.specs.Stores.{System, Laws, All, alone, fileAfter, answers}
-use Rattle.plan.specs.Calls.{CallSystem, CallLaws, fileAfterCalls, told, toldAlone, items, CallsFree, Demand3Calls, CallsLast, Request13Calls}
+use Rattle.plan.specs.Stores.{System, Laws, All, alone, fileAfter}
+use Rattle.plan.specs.Calls.{CallSystem, CallLaws, fileAfterCalls, told, toldAlone, items, Demand3Calls, Request13Calls}
 use Rattle.plan.proofs.Claims.{order-free, last-stands, answers-alone, opening-after, length-after-all, fileAfter-append}
 
 module _ {Store Answer Opened Value : Type 0} (S : System Store Answer Opened Value) (L : Laws S) {Call Whole : Type 0} (C : CallSystem S Call Whole) (K : CallLaws S C) where

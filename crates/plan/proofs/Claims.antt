@@ -14,7 +14,7 @@ use Rattle.lists.proofs.Parts.{length-part, getD-part}
 use Rattle.lists.proofs.Stores.{sets-inside}
 use Rattle.plan.specs.Plans.{Plan, write, refuse, answer, after, outcome, SucceedsAt, succeedsAt, Covers, Holds}
 use Rattle.plan.specs.Stores.{Order, All, System, Laws, alone, fileAfter, answers, storesAt, Distinct, Run, done, call}
-use Rattle.plan.specs.Claims.{OrderFree, Demand3, LastStands, Request13}
+use Rattle.plan.specs.Claims.{Demand3, LastStands, Request13}
 use Rattle.plan.proofs.Orders.{order-mem, order-single, only-member}
 use Rattle.plan.proofs.Plans.{Inside, length-after, address}
 use Rattle.plan.proofs.Runs.{carried, length-carried, carried-append, carried-other, here, carried-here, mem-here, here-mem, none-here, find}

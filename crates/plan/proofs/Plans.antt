@@ -16,7 +16,7 @@ module _ {Answer : Type 0} where
   Inside n (refuse r) = Unit {0}
 
   pub length-after : (f : List ℕ) (p : Plan Answer) → length (after f p) ≡ length f
-  length-after f (write r a b) = length-sets f a b
+  length-after f (write r a b) = length-sets f _ b
   length-after f (refuse r) = refl
 
   -- a byte that the store does not cover is left as it is

@@ -1,7 +1,7 @@
 -- `calendar::date_in` meets its contract: the month is one of twelve, and begins before the day ends.
 -- Assumes nothing.
-use mathlib.Core.Path.{_≡_, sym, ap, ap₂, _∙_}
-use Prim.Native.Nat.{_≤_, _<_}
+use mathlib.Core.Path.{_≡_, ap, ap₂, _∙_}
+use Prim.Native.Nat.{_<_}
 use native.Mathlib.Omega.{arith}
 use borrow.Author.Needs.{needs}
 use Rattle.calendar.specs.Gregorian.{leap, daysBefore, monthOf, dateIn}

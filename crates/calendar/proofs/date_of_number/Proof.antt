@@ -1,7 +1,6 @@
 -- `calendar::date_of_number` meets its contract: the chain of checks is the table of rules, and its verdict picks the answer.
 -- Assumes nothing.
 use mathlib.Core.Path.{_≡_, sym, ap, _∙_}
-use Prim.Native.Nat.{_≤_}
 use borrow.Author.Needs.{needs}
 use Rattle.refusal.specs.Rules.{firstFault, chained}
 use Rattle.refusal.proofs.Tables.{by-table, pass-hold}

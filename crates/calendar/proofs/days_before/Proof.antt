@@ -1,9 +1,6 @@
 -- `calendar::days_before` meets its contract: the table's rule, at the entry that is read.
 -- Assumes nothing.
-use mathlib.Core.Path.{ap, sym, _∙_}
-use mathlib.Core.Bool.{Bool}
 use borrow.Author.Needs.{needs}
-use Rattle.calendar.specs.Gregorian.{daysBefore}
 use Rattle.calendar.proofs.Months.{common-entry, leap-entry}
 use Rattle.calendar.proofs.days_before.Statement.{statement}
 use Rattle.calendar.proofs.days_before.Tie as tie

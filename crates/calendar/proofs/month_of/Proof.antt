@@ -2,7 +2,7 @@
 -- ends.
 -- Assumes nothing.
 use mathlib.Core.Path.{_≡_, refl, sym, ap, _∙_}
-use Prim.Native.Nat.{ℕ, _≤_}
+use Prim.Native.Nat.{_≤_}
 use native.Mathlib.Omega.{arith}
 use Rattle.calendar.specs.Gregorian.{lastBefore}
 use Rattle.calendar.proofs.Months.{last-here, last-back}

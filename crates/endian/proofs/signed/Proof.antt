@@ -6,6 +6,7 @@ use mir.Syntax.{w32}
 use mir.Val.{SFits, toZ, ofZ}
 use mir.Facts.{sfits-toZ, toZ-ofZ}
 use Prim.Native.Nat.{_-_}
+use native.Mathlib.Omega.{arith}
 use borrow.Author.Needs.{needs}
 use Rattle.endian.proofs.Signs.{complement}
 use Rattle.endian.proofs.signed.Statement.{statement}
@@ -13,7 +14,7 @@ use Rattle.endian.proofs.signed.Tie as tie
 
 -- the word that the second arm computes
 computed : (c : tie.Else1) → negsuc 0 -ℤ toZ w32 (4294967295 - c .before .args .n) ≡ toZ w32 (c .before .args .n)
-computed c = complement (c .before .args .n) (c .if1 .left) (c .before .fits .n .fits)
+computed c = complement (c .before .args .n) (omega arith) (c .before .fits .n .fits)
 
 cast-result : tie.Need-cast-result
 cast-result c = search needs

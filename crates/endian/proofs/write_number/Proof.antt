@@ -1,7 +1,7 @@
 -- `endian::write_number` meets its contract. The loop goes from the least significant digit up: after k turns the low k bytes of the
 -- number stand at their place, and `left` is what is left of it.
 -- Assumes nothing.
-use mathlib.Core.Path.{_≡_, refl, ap, _∙_}
+use mathlib.Core.Path.{_≡_, ap, _∙_}
 use Prim.Native.Nat.{ℕ, _+_, _-_, _/_, _^_, _≤_}
 use native.Mathlib.Omega.{arith}
 use lib.ListN.{length}
