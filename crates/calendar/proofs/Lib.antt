@@ -2,3 +2,4 @@ pub mod Months
 pub mod Signs
 pub mod Dates
 pub mod Times
+mod Worked

@@ -11,7 +11,7 @@ use lib.ListN.{length, getD, drop, length-drop, length-reverse, List·getD-eq-de
 use lib.Seq.{drop-cons, getD-drop}
 use native.Mathlib.Decide.{decLt}
 use Rattle.lists.proofs.Reversed.{getD-reverse}
-use Rattle.endian.specs.Numbers.{value, digits, ordered, place, decode, encode, withByte, Bytes}
+use Rattle.endian.specs.Numbers.{value, digits, ordered, position, decode, encode, withByte, Bytes}
 use Rattle.endian.specs.declared.Order.{Order}
 use Rattle.endian.specs.declared.Order.the-variants.{Big, Little}
 
@@ -89,20 +89,20 @@ ordered-twice : (o : Order) (l : List ℕ) → ordered o (ordered o l) ≡ l
 ordered-twice Big l = reverse-reverse l
 ordered-twice Little l = refl
 
--- the digit k stands at its place
-pub digit-at : (o : Order) (l : List ℕ) (k : ℕ) → k < length l → getD (ordered o l) k 0 ≡ getD l (place o (length l) k) 0
+-- the digit k stands at its position
+pub digit-at : (o : Order) (l : List ℕ) (k : ℕ) → k < length l → getD (ordered o l) k 0 ≡ getD l (position o (length l) k) 0
 digit-at Big l k h = getD-reverse l k 0 h
 digit-at Little l k h = refl
 
-pub place-inside : (o : Order) (w k : ℕ) → k < w → place o w k < w
-place-inside Big w k h = omega arith
-place-inside Little w k h = h
+pub position-inside : (o : Order) (w k : ℕ) → k < w → position o w k < w
+position-inside Big w k h = omega arith
+position-inside Little w k h = h
 
 pub ordered-bytes : (o : Order) (l : List ℕ) → Bytes l → Bytes (ordered o l)
 ordered-bytes o l h i = step (decLt i (length l))
   where
     step : Dec (i < length l) → getD (ordered o l) i 0 < 256
-    step (yes lt) = rw (digit-at o l i lt) (h (place o (length l) i))
+    step (yes lt) = rw (digit-at o l i lt) (h (position o (length l) i))
     step (no ge) = rw (List·getD-eq-default (ordered o l) 0 {n = i} (omega (arith, length-ordered o l))) (lit< tt)
 
 -- ---- numbers and their bytes

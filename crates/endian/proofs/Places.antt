@@ -12,12 +12,12 @@ use lib.Dec.{lit<}
 use lib.ListN.{length, getD, set, drop, length-take, List·getD-eq-default}
 use lib.Seq.{sets, length-sets}
 use Rattle.lists.specs.Lists.{Apart, part}
-use Rattle.lists.proofs.Parts.{length-part, getD-part, part-suc, part-part, part-left, part-right, part-same}
+use Rattle.lists.proofs.Parts.{length-part, getD-part, part-suc, part-part, part-left, part-right, part-same, part-agree}
 use Rattle.lists.proofs.Stores.{Where, below, inside, above, where-is, sets-below, sets-above, sets-inside, part-stored, part-apart, set-sets, sets-append, sets-comm, sets-last}
-use Rattle.endian.specs.Numbers.{digits, place, decode, encode, digitsAt, withByte, numberAt, Bytes}
+use Rattle.endian.specs.Numbers.{digits, position, decode, encode, digitsAt, withByte, numberAt, Bytes}
 use Rattle.endian.specs.declared.Order.{Order}
 use Rattle.endian.specs.declared.Order.the-variants.{Big, Little}
-use Rattle.endian.proofs.Numbers.{length-ordered, ordered-bytes, digit-at, place-inside, length-digits, digits-more, length-encode, encode-bytes, decode-encode, decode-encode-low, decode-bound, decode-more}
+use Rattle.endian.proofs.Numbers.{length-ordered, ordered-bytes, digit-at, position-inside, length-digits, digits-more, length-encode, encode-bytes, decode-encode, decode-encode-low, decode-bound, decode-more}
 
 -- ---- a number that is read
 
@@ -38,10 +38,14 @@ number-bound o w f at h =
 pub number-fits : (o : Order) (w : ℕ) (f : List ℕ) (at : ℕ) → Bytes f → w ≤ 4 → numberAt o w f at < 2 ^ 32
 number-fits o w f at h l = lt-of-lt-of-le (number-bound o w f at h) (pow-le-pow-right {n = 256} (lit< tt) l)
 
--- two files of one length that agree on a number's bytes have the same number there
+-- two files that agree on a number's bytes have the same number there, if they are equally long, or the number is inside both
 pub number-same : (o : Order) (w : ℕ) (f g : List ℕ) (at : ℕ) → length f ≡ length g → ((i : ℕ) → at ≤ i → i < at + w → getD f i 0 ≡ getD g i 0) → numberAt o w f at ≡ numberAt o w g at
 unfolding numberAt
 number-same o w f g at e h = ap (decode o) (part-same at w f g 0 e h)
+
+pub number-agree : (o : Order) (w : ℕ) (f g : List ℕ) (at : ℕ) → at + w ≤ length f → at + w ≤ length g → ((i : ℕ) → at ≤ i → i < at + w → getD f i 0 ≡ getD g i 0) → numberAt o w f at ≡ numberAt o w g at
+unfolding numberAt
+number-agree o w f g at p q h = ap (decode o) (part-agree at w f g 0 p q h)
 
 -- one byte more
 pub number-more : (o : Order) (w : ℕ) (f : List ℕ) (at : ℕ) → at + w < length f → numberAt o (suc w) f at ≡ withByte o w (numberAt o w f at) (getD f (at + w) 0)
@@ -72,13 +76,13 @@ length-digitsAt o w f at h = length-ordered o (part at w f) ∙ length-part at w
 pub digitsAt-bytes : (o : Order) (w : ℕ) (f : List ℕ) (at : ℕ) → Bytes f → Bytes (digitsAt o w f at)
 digitsAt-bytes o w f at h = ordered-bytes o (part at w f) (part-bytes at w f h)
 
--- the digit k is the byte at its place
-pub digit-read : (o : Order) (w : ℕ) (f : List ℕ) (at k : ℕ) → k < w → at + w ≤ length f → getD (digitsAt o w f at) k 0 ≡ getD f (at + place o w k) 0
+-- the digit k is the byte at its position
+pub digit-read : (o : Order) (w : ℕ) (f : List ℕ) (at k : ℕ) → k < w → at + w ≤ length f → getD (digitsAt o w f at) k 0 ≡ getD f (at + position o w k) 0
 digit-read o w f at k h fits =
     let e : length (part at w f) ≡ w = length-part at w f fits in
     digit-at o (part at w f) k (omega arith)
-    ∙ ap (λ (x : ℕ). getD (part at w f) (place o x k) 0) e
-    ∙ getD-part at w f (place o w k) 0 (place-inside o w k h)
+    ∙ ap (λ (x : ℕ). getD (part at w f) (position o x k) 0) e
+    ∙ getD-part at w f (position o w k) 0 (position-inside o w k h)
 
 -- ---- a number that is written
 
@@ -142,7 +146,7 @@ written-none Little w f at n = refl
 
 -- one digit more
 pub written-more : (o : Order) (w : ℕ) (f : List ℕ) (at n k : ℕ) → k < w
-    → set (sets f (at + lowStart o w k) (encode o k n)) (at + place o w k) (n / 256 ^ k % 256) ≡ sets f (at + lowStart o w (k + 1)) (encode o (k + 1) n)
+    → set (sets f (at + lowStart o w k) (encode o k n)) (at + position o w k) (n / 256 ^ k % 256) ≡ sets f (at + lowStart o w (k + 1)) (encode o (k + 1) n)
 unfolding encode
 written-more Big w f at n k h =
     let above : at + (w - k) ≡ suc (at + (w - 1 - k)) = omega arith in

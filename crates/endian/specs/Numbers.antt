@@ -23,9 +23,9 @@ ordered Big l = reverse l
 ordered Little l = l
 
 -- where digit k of w stands among the bytes
-abbrev pub place : Order → ℕ → ℕ → ℕ
-place Big w k = w - 1 - k
-place Little w k = k
+abbrev pub position : Order → ℕ → ℕ → ℕ
+position Big w k = w - 1 - k
+position Little w k = k
 
 -- the number that bytes stand for
 unfoldable pub decode : Order → List ℕ → ℕ

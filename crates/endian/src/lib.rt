@@ -8,7 +8,7 @@ ghost use lib.ListN.{length, getD};
 ghost use lib.Seq.{sets};
 ghost use mir.Syntax.{w32};
 ghost use mir.Val.{toZ, ofZ};
-ghost use Rattle.endian.specs.Numbers.{place, digitsAt, numberAt, encode};
+ghost use Rattle.endian.specs.Numbers.{position, digitsAt, numberAt, encode};
 ghost use Rattle.endian.specs.Words.{signedAt, encodeSigned};
 
 // The byte order of a file: the most significant byte of a number first, or the least significant.
@@ -18,9 +18,9 @@ pub enum Order {
 }
 
 // Where the digit k of a number of `width` bytes at `at` stands. Digit 0 is the least significant.
-fn digit_place(order: Order, width: usize, at: usize, k: usize) -> usize
+fn digit_position(order: Order, width: usize, at: usize, k: usize) -> usize
     requires { ⌜ (k < width) × (at + width < 2 ^ 64) ⌝ }
-    ensures { λ r. ⌜ r ≡ at + place order width k ⌝ }
+    ensures { λ r. ⌜ r ≡ at + position order width k ⌝ }
 {
     match order {
         Order::Big => at + (width - 1 - k),
@@ -33,11 +33,12 @@ fn digit(order: Order, width: usize, file: &[u8], at: usize, k: usize) -> u32
     requires { ⌜ (k < width) × (at + width ≤ length (now file)) ⌝ }
     ensures { λ r. ⌜ r ≡ getD (digitsAt order width (now (file .entry)) at) k 0 ⌝ }
 {
-    let i = digit_place(order, width, at, k);
+    let i = digit_position(order, width, at, k);
     file[i] as u32
 }
 
-// The unsigned number of `width` bytes, at most four, at the byte `at`. The caller sees that they are inside the file.
+// The unsigned number of `width` bytes, at most four, at the byte `at`, in Horner's form: from the most significant byte on, what
+// has been read is multiplied by 256 and the next byte added. The caller sees that the bytes are inside the file.
 pub fn read_number(order: Order, width: usize, file: &[u8], at: usize) -> u32
     requires { ⌜ (width ≤ 4) × (at + width ≤ length (now file)) ⌝ }
     ensures { λ r. ⌜ r ≡ numberAt order width (now (file .entry)) at ⌝ }
@@ -51,7 +52,7 @@ pub fn read_number(order: Order, width: usize, file: &[u8], at: usize) -> u32
     number
 }
 
-// Writes the low `width` bytes of n at the byte `at`. The caller sees that they are inside the file. No other byte changes.
+// Writes the low `width` bytes of n at the byte `at`. The caller sees that the bytes are inside the file. No other byte changes.
 pub fn write_number(order: Order, width: usize, file: &mut [u8], at: usize, n: u32)
     requires { ⌜ at + width ≤ length (now file) ⌝ }
     ensures { λ _. ⌜ now (file .exit) ≡ sets (now (file .entry)) at (encode order width n) ⌝ }
@@ -59,7 +60,7 @@ pub fn write_number(order: Order, width: usize, file: &mut [u8], at: usize, n: u
     let mut k = 0;
     let mut left = n;
     while k < width {
-        let i = digit_place(order, width, at, k);
+        let i = digit_position(order, width, at, k);
         file[i] = (left % 256) as u8;
         left = left / 256;
         k += 1;

@@ -25,21 +25,22 @@ module _ {Store Answer Opened Value : Type 0} (S : System Store Answer Opened Va
   inside-of f s ok = step (S .plan f s) refl
     where
       step : (p : Plan Answer) → S .plan f s ≡ p → Inside (length f) p
-      step (write r a b) e = L .inside f s ok e
+      step (write r a b) e = L .inside (record { fit = ok; told = r; planned = e })
       step (refuse r) e = tt
 
   opens-of : (f : List ℕ) (s : Store) → S .Fit s → S .opening (after f (S .plan f s)) ≡ S .opening f
   opens-of f s ok = step (S .plan f s) refl
     where
       step : (p : Plan Answer) → S .plan f s ≡ p → S .opening (after f p) ≡ S .opening f
-      step (write r a b) e = L .opens f s ok e
+      step (write r a b) e = L .opens (record { fit = ok; told = r; planned = e })
       step (refuse r) e = refl
 
   meet-of : (f : List ℕ) (s t : Store) (i a : ℕ) → S .Fit s → S .Fit t → Covers i (S .plan f s) → SucceedsAt a (S .plan f s) → Covers i (S .plan f t) → SucceedsAt a (S .plan f t)
   meet-of f s t i a ok ok′ = step (S .plan f s) (S .plan f t) refl refl
     where
       step : (p q : Plan Answer) → S .plan f s ≡ p → S .plan f t ≡ q → Covers i p → SucceedsAt a p → Covers i q → SucceedsAt a q
-      step (write r b x) (write u c y) e e′ k w k′ = L .meet f t s i ok′ ok e′ e (k′ .0) (k′ .1) (k .0) (k .1) ∙ w
+      step (write r b x) (write u c y) e e′ k w k′ =
+          L .meet (record { fit = ok′; told = u; planned = e′ }) (record { fit = ok; told = r; planned = e }) i (k′ .0) (k′ .1) (k .0) (k .1) ∙ w
       step (write r b x) (refuse u) e e′ k w k′ = k′
       step (refuse r) (write u c y) e e′ k w k′ = absurd k
       step (refuse r) (refuse u) e e′ k w k′ = k′
@@ -109,10 +110,11 @@ module _ {Store Answer Opened Value : Type 0} (S : System Store Answer Opened Va
 
       step : (q : Plan Answer) → S .plan f s ≡ q → SucceedsAt a q → S .read (fileAfter S f l) s ≡ S .number s
       step (refuse u) q w = absurd w
-      step (write u c b) q w = L .reads (fileAfter S f l) s okₛ (L .by-opening (fileAfter S f l) f s okₛ (p .opening) n ∙ q) holds
+      step (write u c b) q w =
+          L .reads (record { fit = okₛ; told = u; planned = L .by-opening (fileAfter S f l) f s okₛ (p .opening) n ∙ q }) holds
         where
           fits : c + length b ≤ length f
-          fits = L .inside f s okₛ q
+          fits = L .inside (record { fit = okₛ; told = u; planned = q })
 
           byte : (k : ℕ) → k < length b → getD (fileAfter S f l) (c + k) 0 ≡ getD b k 0
           byte k lt =

@@ -10,9 +10,10 @@ use native.Mathlib.Omega.{arith}
 use lib.ListN.{length}
 use Rattle.lists.specs.Choices.{pick}
 use Rattle.plan.specs.Plans.{Plan, write, refuse}
+use Rattle.plan.specs.Stores
 use Rattle.plan.specs.Stores.{Laws}
 use Rattle.plan.specs.Claims.{Demand3, Request13}
-use Rattle.plan.specs.Formats.{Format, Fresh, plan, system, Owed}
+use Rattle.plan.specs.Formats.{Format, plan, system, Writes, Owed}
 use Rattle.plan.proofs.Claims.{order-free, last-stands}
 
 -- two places of one lattice that share a byte are one place
@@ -34,21 +35,24 @@ pick-write false p r q a b e = let z : _≡_ {A = ℕ} 0 1 = cc in let y : ⊥ =
 
 module _ {Store Key Opened Answer Value : Type 0} (F : Format Store Key Opened Answer Value) (W : Owed F) where
   -- a store that writes has a fresh layout
-  pub write-fresh : (f : List ℕ) (s : Store) {r : Answer} {a : ℕ} {b : List ℕ} → plan F f s ≡ write r a b → Fresh F f s × (F .within s ≡ write r a b)
+  pub write-fresh : (f : List ℕ) (s : Store) {r : Answer} {a : ℕ} {b : List ℕ} → plan F f s ≡ write r a b → Writes F f s a b
   unfolding plan
   write-fresh f s {r} {a} {b} e =
       let (t, q) = pick-write (F .same s (F .open-as f (F .key s) (F .grid s))) (F .within s) (F .stale) r a b e in
-      (W .exact s (F .open-as f (F .key s) (F .grid s)) .0 t, q)
+      record { fresh = W .exact s (F .open-as f (F .key s) (F .grid s)) .0 t; told = r; planned = q }
 
   module _ (k : Key) where
-    -- the places of one key stand on one lattice
-    on : (f : List ℕ) (s : Store) {r : Answer} {a : ℕ} {b : List ℕ} → F .key s ≡ k → plan F f s ≡ write r a b → (j : ℕ) × (a ≡ W .base f k + j * W .width f k) × (length b ≡ W .width f k)
-    on f s ok e = rw (← ok) (W .lattice f s (write-fresh f s e .0) (write-fresh f s e .1))
+    of : {f : List ℕ} {s : Store} {a : ℕ} {b : List ℕ} → Stores.Writes (system F k) f s a b → Writes F f s a b
+    of {f} {s} w = write-fresh f s (w .planned)
 
-    meets : (f : List ℕ) (s t : Store) (i : ℕ) {r q : Answer} {a c : ℕ} {b d : List ℕ} → F .key s ≡ k → F .key t ≡ k → plan F f s ≡ write r a b → plan F f t ≡ write q c d → a ≤ i → i < a + length b → c ≤ i → i < c + length d → a ≡ c
-    meets f s t i {b = b} {d = d} ok ok′ e e′ h₁ h₂ h₃ h₄ =
-        let (x, xa, xb) = on f s ok e in
-        let (y, ya, yb) = on f t ok′ e′ in
+    -- the places of one key stand on one lattice
+    on : {f : List ℕ} {s : Store} {a : ℕ} {b : List ℕ} → Stores.Writes (system F k) f s a b → (j : ℕ) × (a ≡ W .base f k + j * W .width f k) × (length b ≡ W .width f k)
+    on w = rw (← w .fit) (W .lattice (of w))
+
+    meets : {f : List ℕ} {s t : Store} {a c : ℕ} {b d : List ℕ} → Stores.Writes (system F k) f s a b → Stores.Writes (system F k) f t c d → (i : ℕ) → a ≤ i → i < a + length b → c ≤ i → i < c + length d → a ≡ c
+    meets {f = f} w v i h₁ h₂ h₃ h₄ =
+        let (x, xa, xb) = on w in
+        let (y, ya, yb) = on v in
         let j = on-lattice i (W .base f k) (W .width f k) x y (omega arith) (omega arith) (omega arith) (omega arith) in
         cc (ap (λ (z : ℕ). W .base f k + z * W .width f k) j)
 
@@ -57,10 +61,10 @@ module _ {Store Key Opened Answer Value : Type 0} (F : Format Store Key Opened A
     laws =
         record {
           by-opening = λ f g s ok v n. ap (λ (x : Opened). pick (F .same s x) (F .within s) (refuse (F .stale))) (rw ok (ap (λ (u : ℕ → Opened). u (F .grid s)) v));
-          inside = λ f s ok e. W .inside f s (write-fresh f s e .0) (write-fresh f s e .1);
-          opens = λ f s ok e. fun-ext (λ g. rw (← ok) (W .frame f s (write-fresh f s e .0) (write-fresh f s e .1) g));
-          meet = λ f s t i ok ok′ e e′ h₁ h₂ h₃ h₄. meets f s t i ok ok′ e e′ h₁ h₂ h₃ h₄;
-          reads = λ f s ok e h. W .reads f s (write-fresh f s e .0) (write-fresh f s e .1) h;
+          inside = λ w. W .inside (of w);
+          opens = λ w. fun-ext (λ g. rw (← w .fit) (W .frame (of w) g));
+          meet = λ w v i h₁ h₂ h₃ h₄. meets w v i h₁ h₂ h₃ h₄;
+          reads = λ w h. W .reads (of w) h;
         }
 
     pub demand3 : Demand3 (system F k)

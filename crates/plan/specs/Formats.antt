@@ -1,5 +1,6 @@
--- Stores that carry a layout. A store is refused as stale unless opening the file, by the kind, byte order and grid number of its layout,
--- gives that very layout; what it does then depends on the store alone. A key is what demand 3 calls one kind and one byte order.
+-- Stores that carry a layout. "Layout" and "stale" are document 01's terms: a layout is what opening answers, and it is stale where
+-- opening these bytes, by the layout's kind, byte order and grid number, does not give that very layout. A store with a stale layout is
+-- refused; what any other store does depends on the store alone. A key is what demand 3 calls one kind and one byte order.
 -- Assumes nothing.
 use mathlib.Core.Path.{_≡_}
 use mathlib.Core.Bool.{Bool, true}
@@ -48,18 +49,24 @@ module _ {Store Key Opened Answer Value : Type 0} (F : Format Store Key Opened A
         number = F .number;
       }
 
-  -- What a format owes. Of a store with a fresh layout that writes b at address a:
+  -- a store with a fresh layout succeeds, and writes b at address a
+  pub record Writes (f : List ℕ) (s : Store) (a : ℕ) (b : List ℕ) : Type 0 where
+    pub fresh : Fresh f s
+    pub told : Answer
+    pub planned : F .within s ≡ write told a b
+
+  -- what a format owes
   pub record Owed : Type 0 where
     -- whether an answer is the store's layout is told exactly
     pub exact : (s : Store) (x : Opened) → (F .same s x ≡ true) ↔ (x ≡ F .layout s)
-    -- the place is inside the file
-    pub inside : (f : List ℕ) (s : Store) {r : Answer} {a : ℕ} {b : List ℕ} → Fresh f s → F .within s ≡ write r a b → a + length b ≤ length f
-    -- opening answers as before, for every grid number
-    pub frame : (f : List ℕ) (s : Store) {r : Answer} {a : ℕ} {b : List ℕ} → Fresh f s → F .within s ≡ write r a b → (g : ℕ) → F .open-as (sets f a b) (F .key s) g ≡ F .open-as f (F .key s) g
+    -- a place is inside the file
+    pub inside : {f : List ℕ} {s : Store} {a : ℕ} {b : List ℕ} → Writes f s a b → a + length b ≤ length f
+    -- after a store opening answers as before, for every grid number
+    pub frame : {f : List ℕ} {s : Store} {a : ℕ} {b : List ℕ} → Writes f s a b → (g : ℕ) → F .open-as (sets f a b) (F .key s) g ≡ F .open-as f (F .key s) g
     -- all places of one file and key are equally wide and stand at multiples of the width from one base, so that two of them
     -- are equal or share no byte
     pub base : List ℕ → Key → ℕ
     pub width : List ℕ → Key → ℕ
-    pub lattice : (f : List ℕ) (s : Store) {r : Answer} {a : ℕ} {b : List ℕ} → Fresh f s → F .within s ≡ write r a b → (j : ℕ) × (a ≡ base f (F .key s) + j * width f (F .key s)) × (length b ≡ width f (F .key s))
-    -- where the place holds b, the read answers the store's number
-    pub reads : (f : List ℕ) (s : Store) {r : Answer} {a : ℕ} {b : List ℕ} → Fresh f s → F .within s ≡ write r a b → Holds f a b → F .read f s ≡ F .number s
+    pub lattice : {f : List ℕ} {s : Store} {a : ℕ} {b : List ℕ} → Writes f s a b → (j : ℕ) × (a ≡ base f (F .key s) + j * width f (F .key s)) × (length b ≡ width f (F .key s))
+    -- where a place holds a store's bytes, the read answers the store's number
+    pub reads : {f : List ℕ} {s : Store} {a : ℕ} {b : List ℕ} → Writes f s a b → Holds f a b → F .read f s ≡ F .number s

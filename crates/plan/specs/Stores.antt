@@ -55,15 +55,21 @@ module _ {Store Answer Opened Value : Type 0} (S : System Store Answer Opened Va
     done : {f h : List ℕ} → h ≡ f → Run f [] [] h
     call : {f g h : List ℕ} {s : Store} {l : List Store} {r : Answer} {rs : List Answer} → (r, g) ≡ outcome f (S .plan f s) → Run g l rs h → Run f (s ∷ l) (r ∷ rs) h
 
+  -- a store that is meant succeeds, and writes b at address a
+  pub record Writes (f : List ℕ) (s : Store) (a : ℕ) (b : List ℕ) : Type 0 where
+    pub fit : S .Fit s
+    pub told : Answer
+    pub planned : S .plan f s ≡ write told a b
+
   -- What the order of stores rests on. Each is a law of one or two stores on one file.
   pub record Laws : Type 0 where
     -- a store's plan depends on the file through what opening answers and the file's length alone
     pub by-opening : (f g : List ℕ) (s : Store) → S .Fit s → S .opening f ≡ S .opening g → length f ≡ length g → S .plan f s ≡ S .plan g s
     -- a place is inside the file
-    pub inside : (f : List ℕ) (s : Store) {r : Answer} {a : ℕ} {b : List ℕ} → S .Fit s → S .plan f s ≡ write r a b → a + length b ≤ length f
+    pub inside : {f : List ℕ} {s : Store} {a : ℕ} {b : List ℕ} → Writes f s a b → a + length b ≤ length f
     -- a store leaves what opening answers
-    pub opens : (f : List ℕ) (s : Store) {r : Answer} {a : ℕ} {b : List ℕ} → S .Fit s → S .plan f s ≡ write r a b → S .opening (sets f a b) ≡ S .opening f
+    pub opens : {f : List ℕ} {s : Store} {a : ℕ} {b : List ℕ} → Writes f s a b → S .opening (sets f a b) ≡ S .opening f
     -- two places that share a byte have the same address
-    pub meet : (f : List ℕ) (s t : Store) (i : ℕ) {r q : Answer} {a c : ℕ} {b d : List ℕ} → S .Fit s → S .Fit t → S .plan f s ≡ write r a b → S .plan f t ≡ write q c d → a ≤ i → i < a + length b → c ≤ i → i < c + length d → a ≡ c
+    pub meet : {f : List ℕ} {s t : Store} {a c : ℕ} {b d : List ℕ} → Writes f s a b → Writes f t c d → (i : ℕ) → a ≤ i → i < a + length b → c ≤ i → i < c + length d → a ≡ c
     -- a place that holds a store's bytes reads back as its number
-    pub reads : (f : List ℕ) (s : Store) {r : Answer} {a : ℕ} {b : List ℕ} → S .Fit s → S .plan f s ≡ write r a b → Holds f a b → S .read f s ≡ S .number s
+    pub reads : {f : List ℕ} {s : Store} {a : ℕ} {b : List ℕ} → Writes f s a b → Holds f a b → S .read f s ≡ S .number s

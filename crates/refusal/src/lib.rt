@@ -4,7 +4,8 @@ ghost use Rattle.lists.specs.Choices.{both, either};
 ghost use Rattle.refusal.specs.Rules.{rule, judge, first};
 ghost use Rattle.refusal.specs.Tests.{within};
 
-// What a call answers where it refuses: a number of document 01's table, and the place that the table gives for it.
+// What a call answers where it refuses. "Refusal", its number and its place are document 01's terms: the number is that of a row of
+// its table, and the place is the one that the row gives.
 pub struct Refusal {
     pub number: u32,
     pub place: u64,

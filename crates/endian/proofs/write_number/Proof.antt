@@ -7,7 +7,7 @@ use native.Mathlib.Omega.{arith}
 use lib.ListN.{length}
 use lib.Seq.{sets, length-sets}
 use Rattle.endian.specs.Numbers.{encode}
-use Rattle.endian.proofs.Numbers.{place-inside}
+use Rattle.endian.proofs.Numbers.{position-inside}
 use Rattle.endian.proofs.Places.{lowStart, written-none, written-more, written-all, left-more}
 use Rattle.endian.proofs.write_number.Statement.{statement}
 use Rattle.endian.proofs.write_number.Tie as tie
@@ -24,8 +24,8 @@ loop-holds c =
     let a = c .before .args in
     (omega arith, written-none (a .order) (a .width) (a .file .now) (a .at) (a .n), omega arith)
 
-digit-place-requires : tie.Need-digit-place-requires Inv-loop μ-loop
-digit-place-requires c κs = (omega arith, omega arith)
+digit-position-requires : tie.Need-digit-position-requires Inv-loop μ-loop
+digit-position-requires c κs = (omega arith, omega arith)
 
 cast-file : tie.Need-cast-file Inv-loop μ-loop
 cast-file c = omega arith
@@ -36,8 +36,8 @@ slice-write-file c =
     let l = c .before .before .loop in
     omega (
       arith,
-      c .digit-place .ensures,
-      place-inside (a .order) (a .width) (l .k) (c .before .loop-test .taken),
+      c .digit-position .ensures,
+      position-inside (a .order) (a .width) (l .k) (c .before .loop-test .taken),
       ap length (l .inv .1) ∙ length-sets (a .file .now) (a .at + lowStart (a .order) (a .width) (l .k)) (encode (a .order) (l .k) (a .n)),
     )
 
@@ -52,7 +52,7 @@ loop-again c =
     let a = c .before .before .before .before .args in
     let l = c .before .before .loop in (
       omega arith,
-      rw (l .inv .1, c .digit-place .ensures, l .inv .2) (written-more (a .order) (a .width) (a .file .now) (a .at) (a .n) (l .k) (c .before .loop-test .taken)),
+      rw (l .inv .1, c .digit-position .ensures, l .inv .2) (written-more (a .order) (a .width) (a .file .now) (a .at) (a .n) (l .k) (c .before .loop-test .taken)),
       rw (l .inv .2) (left-more (a .n) (l .k)),
     )
 
@@ -74,7 +74,7 @@ write-number-spec =
     Inv-loop
     μ-loop
     loop-holds
-    digit-place-requires
+    digit-position-requires
     cast-file
     slice-write-file
     add-k

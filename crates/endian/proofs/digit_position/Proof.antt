@@ -1,8 +1,8 @@
--- `endian::digit_place` meets its contract: each arm is a case of `place`.
+-- `endian::digit_position` meets its contract: each arm is a case of `position`.
 -- Assumes nothing.
 use borrow.Author.Needs.{needs}
-use Rattle.endian.proofs.digit_place.Statement.{statement}
-use Rattle.endian.proofs.digit_place.Tie as tie
+use Rattle.endian.proofs.digit_position.Statement.{statement}
+use Rattle.endian.proofs.digit_position.Tie as tie
 
 enum-told : tie.Need-enum-told
 enum-told c = search needs
@@ -28,8 +28,8 @@ returns c = rw (c .enum-told .given .1)
 returns-2 : tie.Need-returns-2
 returns-2 c = rw (c .enum-told2 .given .1)
 
-pub digit-place-spec : {M : Type 1} → statement M
-digit-place-spec =
+pub digit-position-spec : {M : Type 1} → statement M
+digit-position-spec =
     tie.close
     (tie.spec
     enum-told
