@@ -13,10 +13,11 @@ use Rattle.calendar.specs.declared.Date.{Date}
 use Rattle.calendar.specs.declared.DateAnswer.{DateAnswer}
 use Rattle.calendar.specs.declared.DateAnswer.the-variants.{On, Refused}
 
--- the year and the day of the year that yyyddd holds
+-- the year that yyyddd holds
 abbrev pub yearOf : ℕ → ℕ
 yearOf n = 1900 + n / 1000
 
+-- the day of the year that it holds
 abbrev pub dayOf : ℕ → ℕ
 dayOf n = n % 1000
 

@@ -18,13 +18,13 @@ use lib.Seq.{sets}
 use lib.Signed.{nonNeg, leZ, mag, _≤ℤ_}
 use mir.Syntax.{w32}
 use mir.Val.{Fits, SFits, toZ, ofZ}
-use mir.Facts.{fits-ofZ, toZ-pos, toZ-ofZ}
+use mir.Facts.{sfits-toZ, fits-ofZ, toZ-pos, toZ-ofZ}
 use borrow.Author.Tests.{ltb-true, ltb-false, le-ltb, le-leb}
 use Rattle.lists.specs.Lists.{Apart}
-use Rattle.endian.specs.Numbers.{encode}
+use Rattle.endian.specs.Numbers.{encode, numberAt, Bytes}
 use Rattle.endian.specs.Words.{signedAt, encodeSigned}
 use Rattle.endian.specs.declared.Order.{Order}
-use Rattle.endian.proofs.Places.{read-back, number-frame}
+use Rattle.endian.proofs.Places.{number-bound, read-back, number-frame}
 
 -- ---- the two readings of 32 bits
 
@@ -70,11 +70,18 @@ signed-minus-one n most =
 
 -- ---- words that are written and read
 
+-- where two numbers of four bytes are equal, so are the words: this carries every law of a number that is read to the word
+pub signed-same : (o p : Order) (f g : List ℕ) (at b : ℕ) → numberAt o 4 f at ≡ numberAt p 4 g b → signedAt o f at ≡ signedAt p g b
+signed-same o p f g at b e = ap (toZ w32) e
+
+pub signed-fits : (o : Order) (f : List ℕ) (at : ℕ) → Bytes f → SFits w32 (signedAt o f at)
+signed-fits o f at h = sfits-toZ (record { fits = number-bound o 4 f at h })
+
 pub signed-back : (o : Order) (f : List ℕ) (at : ℕ) (v : ℤ) → at + 4 ≤ length f → SFits w32 v → signedAt o (sets f at (encodeSigned o v)) at ≡ v
 signed-back o f at v h s = ap (toZ w32) (read-back o 4 f at (ofZ w32 v) h (fits-ofZ s .fits)) ∙ toZ-ofZ s
 
 pub signed-frame : (o p : Order) (w : ℕ) (f : List ℕ) (at n b : ℕ) → Apart b 4 at w → signedAt p (sets f at (encode o w n)) b ≡ signedAt p f b
-signed-frame o p w f at n b h = ap (toZ w32) (number-frame o p w 4 f at n b h)
+signed-frame o p w f at n b h = signed-same p p (sets f at (encode o w n)) f b b (number-frame o p w 4 f at n b h)
 
 -- a signed local is kept as its bits, and what is read of them is the number
 pub same-word : (z : ℤ) → mag z < 2 ^ 31 → toZ w32 (ofZ w32 z) ≡ z

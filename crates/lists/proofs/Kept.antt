@@ -4,11 +4,11 @@ use mathlib.Core.Path.{_≡_, refl, sym, ap, _∙_}
 use mathlib.Core.Bool.{Bool, true, false}
 use mathlib.Core.Logic.{⊎-elim}
 use mathlib.Core.List.{List, [], _∷_, _++_, List·Memᴰ, List·Memᴰ·head, List·Memᴰ·tail, List·Memᴰ·not-nil, List·Memᴰ·cases-cons}
-use Prim.Native.Nat.{suc, _≤_}
+use Prim.Native.Nat.{ℕ, zero, suc, _≤_}
 use native.Mathlib.Omega.{arith}
 use lib.ListN.{length}
 use Rattle.lists.specs.Choices.{pick}
-use Rattle.lists.specs.Lists.{keep}
+use Rattle.lists.specs.Lists.{linesOf, keep}
 
 module _ {A : Type 0} (t : A → Bool) where
   pub keep-append : (l m : List A) → keep t (l ++ m) ≡ keep t l ++ keep t m
@@ -56,3 +56,9 @@ pub keep-same : {A : Type 0} (t u : A → Bool) (l : List A) → ((x : A) → Li
 unfolding keep
 keep-same t u [] h = refl
 keep-same t u (x ∷ l) h = rw (h x (List·Memᴰ·head refl), keep-same t u l (λ y m. h y (List·Memᴰ·tail m)))
+
+-- what is kept of lines is what is kept of each line
+pub keep-linesOf : {A : Type 0} (t : A → Bool) (g : ℕ → List A) (n : ℕ) → keep t (linesOf g n) ≡ linesOf (λ i. keep t (g i)) n
+unfolding keep linesOf
+keep-linesOf t g zero = refl
+keep-linesOf t g (suc n) = keep-append t (linesOf g n) (g n) ∙ ap (λ l. l ++ keep t (g n)) (keep-linesOf t g n)

@@ -15,11 +15,13 @@ pub record Told (Whole Answer : Type 0) : Type 0 where
   pub slots : List Answer
 
 module _ {Store Answer Opened Value : Type 0} (S : System Store Answer Opened Value) where
-  -- Calls over the stores of a file format. The stores that a call makes of a file, none where it is refused as a whole, and what it
-  -- is told as a whole. `Fit` says which calls are meant: those whose layout is of the one kind and byte order.
+  -- calls that make stores of a file format
   pub record CallSystem (Call Whole : Type 0) : Type 1 where
+    -- which calls are meant: those whose layout is of the one kind and byte order
     pub Fit : Call → Type 0
+    -- the stores that a call makes of a file, in their order; none where it is refused as a whole
     pub makes : List ℕ → Call → List Store
+    -- what it is told as a whole
     pub whole : List ℕ → Call → Whole
 
   module _ {Call Whole : Type 0} (C : CallSystem Call Whole) where
@@ -30,11 +32,12 @@ module _ {Store Answer Opened Value : Type 0} (S : System Store Answer Opened Va
       pub makes-by-opening : (f g : List ℕ) (c : Call) → C .Fit c → S .opening f ≡ S .opening g → length f ≡ length g → C .makes f c ≡ C .makes g c
       pub whole-by-opening : (f g : List ℕ) (c : Call) → C .Fit c → S .opening f ≡ S .opening g → length f ≡ length g → C .whole f c ≡ C .whole g c
 
-    -- calls made one after another: the file in the end, and what each call is told
+    -- the file after calls made one after another
     unfoldable pub fileAfterCalls : List ℕ → List Call → List ℕ
     fileAfterCalls f [] = f
     fileAfterCalls f (c ∷ l) = fileAfterCalls (fileAfter S f (C .makes f c)) l
 
+    -- what each of them is told
     unfoldable pub told : List ℕ → List Call → List (Told Whole Answer)
     told f [] = []
     told f (c ∷ l) = record { whole = C .whole f c; slots = answers S f (C .makes f c) } ∷ told (fileAfter S f (C .makes f c)) l
@@ -55,10 +58,12 @@ module _ {Store Answer Opened Value : Type 0} (S : System Store Answer Opened Va
       pub same : (m : List Call) → All (C .Fit) m → Order (items f l) (items f m) → fileAfterCalls f m ≡ stores .bytes
       pub toldSo : (m : List Call) → All (C .Fit) m → told f m ≡ map (toldAlone f) m
 
+    -- demand 3 over calls: of any file, and any list of calls no two of whose items succeed at the same place
     abbrev pub Demand3Calls : Type 0
     Demand3Calls = (f : List ℕ) (l : List Call) → All (C .Fit) l → Distinct S f (items f l) → CallsFree f l
 
-    -- Request 13 over calls
+    -- Request 13 over calls: the claim for the stores; both lists of calls leave the same bytes, those of the stores made one after
+    -- another; and each call of both is told what it would be told alone on the file as it came.
     pub record CallsLast (f : List ℕ) (l m : List Call) : Type 0 where
       pub stores : LastStands S f (items f l) (items f m)
       pub same : fileAfterCalls f l ≡ fileAfterCalls f m
@@ -66,5 +71,6 @@ module _ {Store Answer Opened Value : Type 0} (S : System Store Answer Opened Va
       pub toldSo : told f l ≡ map (toldAlone f) l
       pub toldSo′ : told f m ≡ map (toldAlone f) m
 
+    -- request 13 over calls: the items of the two lists are the same, each as often, and those at the same place stand in the same order
     abbrev pub Request13Calls : Type 0
     Request13Calls = (f : List ℕ) (l m : List Call) → All (C .Fit) l → All (C .Fit) m → Order (items f l) (items f m) → ((a : ℕ) → storesAt S f a (items f l) ≡ storesAt S f a (items f m)) → CallsLast f l m

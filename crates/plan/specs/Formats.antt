@@ -13,6 +13,7 @@ use Rattle.lists.specs.Choices.{pick}
 use Rattle.plan.specs.Plans.{Plan, write, refuse, Holds}
 use Rattle.plan.specs.Stores.{System}
 
+-- the stores of a file format whose stores carry a layout
 pub record Format (Store Key Opened Answer Value : Type 0) : Type 0 where
   -- the kind and byte order, and the grid number, of the store's layout
   pub key : Store → Key
@@ -35,6 +36,7 @@ module _ {Store Key Opened Answer Value : Type 0} (F : Format Store Key Opened A
   abbrev pub Fresh : List ℕ → Store → Type 0
   Fresh f s = F .open-as f (F .key s) (F .grid s) ≡ F .layout s
 
+  -- a store with a stale layout is refused, and any other does what it does
   unfoldable pub plan : List ℕ → Store → Plan Answer
   plan f s = pick (F .same s (F .open-as f (F .key s) (F .grid s))) (F .within s) (refuse (F .stale))
 

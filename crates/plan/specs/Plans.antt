@@ -35,6 +35,7 @@ module _ {Answer : Type 0} where
   SucceedsAt c (write r a b) = a ≡ c
   SucceedsAt c (refuse r) = ⊥
 
+  -- whether it does
   abbrev pub succeedsAt : (c : ℕ) (p : Plan Answer) → Dec (SucceedsAt c p)
   succeedsAt c (write r a b) = ℕ-discrete a c
   succeedsAt c (refuse r) = no (λ h. h)

@@ -15,13 +15,15 @@ Order l o = List·Permᴰ l o
 abbrev pub All : {X : Type 0} → (X → Type 0) → List X → Type 0
 All {X} P l = (x : X) → List·Memᴰ x l → P x
 
--- The stores of a file format. What a store plans on a file, what opening a file answers, what the single read of a store's place
--- with the store's layout answers, and that answer where the place holds the store's number. `Fit` says which stores are meant:
--- those whose layout is of the one kind and byte order.
+-- the stores of a file format
 pub record System (Store Answer Opened Value : Type 0) : Type 1 where
+  -- which stores are meant: those whose layout is of the one kind and byte order
   pub Fit : Store → Type 0
+  -- what a store does to a file
   pub plan : List ℕ → Store → Plan Answer
+  -- what opening a file answers
   pub opening : List ℕ → Opened
+  -- what the single read of a store's place with the store's layout answers, and that answer where the place holds the store's number
   pub read : List ℕ → Store → Value
   pub number : Store → Value
 
@@ -30,12 +32,13 @@ module _ {Store Answer Opened Value : Type 0} (S : System Store Answer Opened Va
   abbrev pub alone : List ℕ → Store → Answer
   alone f s = answer (S .plan f s)
 
-  -- Stores made one after another, from left to right: the first gets the file as it came, each later one the file as the store
-  -- before it left it. What the file is in the end, and what each store is answered.
+  -- the file after stores made one after another, from left to right: the first gets the file as it came, each later one the file as
+  -- the store before it left it
   unfoldable pub fileAfter : List ℕ → List Store → List ℕ
   fileAfter f [] = f
   fileAfter f (s ∷ l) = fileAfter (after f (S .plan f s)) l
 
+  -- what each of them is answered
   unfoldable pub answers : List ℕ → List Store → List Answer
   answers f [] = []
   answers f (s ∷ l) = answer (S .plan f s) ∷ answers (after f (S .plan f s)) l

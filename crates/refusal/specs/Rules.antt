@@ -16,6 +16,7 @@ pub record Rule : Type 0 where
   pub number : ℕ
   pub place : ℕ
 
+-- a row, in the order in which tables write it
 abbrev pub rule : Bool → ℕ → ℕ → Rule
 rule holds number place = record { holds = holds; number = number; place = place }
 
