@@ -35,19 +35,19 @@ pick-write false p r q a b e = let z : _≡_ {A = ℕ} 0 1 = cc in let y : ⊥ =
 
 module _ {Store Key Opened Answer Value : Type 0} (F : Format Store Key Opened Answer Value) (W : Owed F) where
   -- a store that writes has a fresh layout
-  pub write-fresh : (f : List ℕ) (s : Store) {r : Answer} {a : ℕ} {b : List ℕ} → plan F f s ≡ write r a b → Writes F f s a b
+  pub write-fresh : (f : List ℕ) (s : Store) {r : Answer} {a : ℕ} {b : List ℕ} → F .Typed s → plan F f s ≡ write r a b → Writes F f s a b
   unfolding plan
-  write-fresh f s {r} {a} {b} e =
+  write-fresh f s {r} {a} {b} typed e =
       let (t, q) = pick-write (F .same s (F .open-as f (F .key s) (F .grid s))) (F .within s) (F .stale) r a b e in
-      record { fresh = W .exact s (F .open-as f (F .key s) (F .grid s)) .0 t; told = r; planned = q }
+      record { typed = typed; fresh = W .exact s (F .open-as f (F .key s) (F .grid s)) .0 t; told = r; planned = q }
 
   module _ (k : Key) where
     of : {f : List ℕ} {s : Store} {a : ℕ} {b : List ℕ} → Stores.Writes (system F k) f s a b → Writes F f s a b
-    of {f} {s} w = write-fresh f s (w .planned)
+    of {f} {s} w = write-fresh f s (w .fit .1) (w .planned)
 
     -- the places of one key stand on one lattice
     on : {f : List ℕ} {s : Store} {a : ℕ} {b : List ℕ} → Stores.Writes (system F k) f s a b → (j : ℕ) × (a ≡ W .base f k + j * W .width f k) × (length b ≡ W .width f k)
-    on w = rw (← w .fit) (W .lattice (of w))
+    on w = rw (← w .fit .0) (W .lattice (of w))
 
     meets : {f : List ℕ} {s t : Store} {a c : ℕ} {b d : List ℕ} → Stores.Writes (system F k) f s a b → Stores.Writes (system F k) f t c d → (i : ℕ) → a ≤ i → i < a + length b → c ≤ i → i < c + length d → a ≡ c
     meets {f = f} w v i h₁ h₂ h₃ h₄ =
@@ -60,9 +60,9 @@ module _ {Store Key Opened Answer Value : Type 0} (F : Format Store Key Opened A
     unfolding plan
     laws =
         record {
-          by-opening = λ f g s ok v n. ap (λ (x : Opened). pick (F .same s x) (F .within s) (refuse (F .stale))) (rw ok (ap (λ (u : ℕ → Opened). u (F .grid s)) v));
+          by-opening = λ f g s ok v n. ap (λ (x : Opened). pick (F .same s x) (F .within s) (refuse (F .stale))) (rw (ok .0) (ap (λ (u : ℕ → Opened). u (F .grid s)) v));
           inside = λ w. W .inside (of w);
-          opens = λ w. fun-ext (λ g. rw (← w .fit) (W .frame (of w) g));
+          opens = λ w. fun-ext (λ g. rw (← w .fit .0) (W .frame (of w) g));
           meet = λ w v i h₁ h₂ h₃ h₄. meets w v i h₁ h₂ h₃ h₄;
           reads = λ w h. W .reads (of w) h;
         }

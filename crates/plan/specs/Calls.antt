@@ -17,7 +17,7 @@ pub record Told (Whole Answer : Type 0) : Type 0 where
 module _ {Store Answer Opened Value : Type 0} (S : System Store Answer Opened Value) where
   -- calls that make stores of a file format
   pub record CallSystem (Call Whole : Type 0) : Type 1 where
-    -- which calls are meant: those whose layout is of the one kind and byte order
+    -- which calls are meant: those whose layout is of the one kind and byte order, and whose numbers are such as can be stored
     pub Fit : Call → Type 0
     -- the stores that a call makes of a file, in their order; none where it is refused as a whole
     pub makes : List ℕ → Call → List Store

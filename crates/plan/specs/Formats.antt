@@ -14,10 +14,12 @@ use Rattle.plan.specs.Plans.{Plan, write, refuse, Holds}
 use Rattle.plan.specs.Stores.{System}
 
 -- the stores of a file format whose stores carry a layout
-pub record Format (Store Key Opened Answer Value : Type 0) : Type 0 where
+pub record Format (Store Key Opened Answer Value : Type 0) : Type 1 where
   -- the kind and byte order, and the grid number, of the store's layout
   pub key : Store → Key
   pub grid : Store → ℕ
+  -- the store's number is one that the type of a number to store has: "0 to 4,294,967,295 for AREA and a signed word otherwise"
+  pub Typed : Store → Type 0
   -- what opening a file by a key and a grid number answers
   pub open-as : List ℕ → Key → ℕ → Opened
   -- the answer of opening that is the store's layout, and whether an answer is that very one
@@ -40,11 +42,11 @@ module _ {Store Key Opened Answer Value : Type 0} (F : Format Store Key Opened A
   unfoldable pub plan : List ℕ → Store → Plan Answer
   plan f s = pick (F .same s (F .open-as f (F .key s) (F .grid s))) (F .within s) (refuse (F .stale))
 
-  -- the stores whose layout is of key k; opening answers for every grid number
+  -- the stores whose layout is of key k and whose numbers have their type; opening answers for every grid number
   abbrev pub system : Key → System Store Answer (ℕ → Opened) Value
   system k =
       record {
-        Fit = λ s. F .key s ≡ k;
+        Fit = λ s. (F .key s ≡ k) × F .Typed s;
         plan = plan;
         opening = λ f g. F .open-as f k g;
         read = F .read;
@@ -53,6 +55,7 @@ module _ {Store Key Opened Answer Value : Type 0} (F : Format Store Key Opened A
 
   -- a store with a fresh layout succeeds, and writes b at address a
   pub record Writes (f : List ℕ) (s : Store) (a : ℕ) (b : List ℕ) : Type 0 where
+    pub typed : F .Typed s
     pub fresh : Fresh f s
     pub told : Answer
     pub planned : F .within s ≡ write told a b

@@ -17,7 +17,7 @@ All {X} P l = (x : X) → List·Memᴰ x l → P x
 
 -- the stores of a file format
 pub record System (Store Answer Opened Value : Type 0) : Type 1 where
-  -- which stores are meant: those whose layout is of the one kind and byte order
+  -- which stores are meant: those whose layout is of the one kind and byte order, and whose numbers are such as can be stored
   pub Fit : Store → Type 0
   -- what a store does to a file
   pub plan : List ℕ → Store → Plan Answer
