@@ -71,7 +71,8 @@ last-back isLeap day (suc m) h le =
     rw (le-ltb (daysBefore isLeap (suc m)) day le, e)
 
 -- a day after the start of a month and not after its end lies in it
-pub month-only : (isLeap : Bool) (day m k : ℕ) → m ≤ k → daysBefore isLeap m < day → day ≤ daysBefore isLeap (suc m) → lastBefore isLeap day k ≡ m
+pub month-only : (isLeap : Bool) (day m k : ℕ) → m ≤ k → daysBefore isLeap m < day → day ≤ daysBefore isLeap (suc m)
+    → lastBefore isLeap day k ≡ m
 unfolding lastBefore
 month-only isLeap day m zero h lo hi = omega arith
 month-only isLeap day m (suc k) h lo hi =
@@ -93,7 +94,8 @@ unfolding lastBefore daysBefore
 month-lies isLeap day zero = record { month = omega arith; starts = λ h. h; ends = λ h. h }
 month-lies isLeap day (suc k) = step (ltb (daysBefore isLeap (suc k)) day) refl (month-lies isLeap day k)
   where
-    step : (t : Bool) → ltb (daysBefore isLeap (suc k)) day ≡ t → Lies isLeap day k (lastBefore isLeap day k) → Lies isLeap day (suc k) (pick t (suc k) (lastBefore isLeap day k))
+    step : (t : Bool) → ltb (daysBefore isLeap (suc k)) day ≡ t → Lies isLeap day k (lastBefore isLeap day k)
+        → Lies isLeap day (suc k) (pick t (suc k) (lastBefore isLeap day k))
     step true e r = record { month = omega arith; starts = λ h. ltb-true (daysBefore isLeap (suc k)) day e; ends = λ h. h }
     step false e r =
         record {

@@ -56,5 +56,6 @@ unfolding timeOf timeOfNumber timeRules
 refusal-is (pos n) r e = refused-same tells (timeRules n) (timeIn n) _ r (refl, (refl, (refl, tt))) e
 refusal-is (negsuc n) r e = sym (tells .refusals e)
 
-pub time-refused : (z : ℤ) (r : Refusal) → timeOf z ≡ Refused r → (r ≡ record { number = 11; place = 0 }) × ((t : TimeOfDay) → ¬ TimeWord z t)
+pub time-refused : (z : ℤ) (r : Refusal) → timeOf z ≡ Refused r
+    → (r ≡ record { number = 11; place = 0 }) × ((t : TimeOfDay) → ¬ TimeWord z t)
 time-refused z r e = (refusal-is z r e, exactly-none tells timeOf TimeWord time-exactly z r e)

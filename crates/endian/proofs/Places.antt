@@ -39,16 +39,19 @@ pub number-fits : (o : Order) (w : ℕ) (f : List ℕ) (at : ℕ) → Bytes f �
 number-fits o w f at h l = lt-of-lt-of-le (number-bound o w f at h) (pow-le-pow-right {n = 256} (lit< tt) l)
 
 -- two files that agree on a number's bytes have the same number there, if they are equally long, or the number is inside both
-pub number-same : (o : Order) (w : ℕ) (f g : List ℕ) (at : ℕ) → length f ≡ length g → ((i : ℕ) → at ≤ i → i < at + w → getD f i 0 ≡ getD g i 0) → numberAt o w f at ≡ numberAt o w g at
+pub number-same : (o : Order) (w : ℕ) (f g : List ℕ) (at : ℕ) → length f ≡ length g
+    → ((i : ℕ) → at ≤ i → i < at + w → getD f i 0 ≡ getD g i 0) → numberAt o w f at ≡ numberAt o w g at
 unfolding numberAt
 number-same o w f g at e h = ap (decode o) (part-same at w f g 0 e h)
 
-pub number-agree : (o : Order) (w : ℕ) (f g : List ℕ) (at : ℕ) → at + w ≤ length f → at + w ≤ length g → ((i : ℕ) → at ≤ i → i < at + w → getD f i 0 ≡ getD g i 0) → numberAt o w f at ≡ numberAt o w g at
+pub number-agree : (o : Order) (w : ℕ) (f g : List ℕ) (at : ℕ) → at + w ≤ length f → at + w ≤ length g
+    → ((i : ℕ) → at ≤ i → i < at + w → getD f i 0 ≡ getD g i 0) → numberAt o w f at ≡ numberAt o w g at
 unfolding numberAt
 number-agree o w f g at p q h = ap (decode o) (part-agree at w f g 0 p q h)
 
 -- one byte more
-pub number-more : (o : Order) (w : ℕ) (f : List ℕ) (at : ℕ) → at + w < length f → numberAt o (suc w) f at ≡ withByte o w (numberAt o w f at) (getD f (at + w) 0)
+pub number-more : (o : Order) (w : ℕ) (f : List ℕ) (at : ℕ) → at + w < length f
+    → numberAt o (suc w) f at ≡ withByte o w (numberAt o w f at) (getD f (at + w) 0)
 unfolding numberAt
 number-more o w f at h =
     ap (decode o) (part-suc at w f 0 h)
@@ -77,7 +80,8 @@ pub digitsAt-bytes : (o : Order) (w : ℕ) (f : List ℕ) (at : ℕ) → Bytes f
 digitsAt-bytes o w f at h = ordered-bytes o (part at w f) (part-bytes at w f h)
 
 -- the digit k is the byte at its position
-pub digit-read : (o : Order) (w : ℕ) (f : List ℕ) (at k : ℕ) → k < w → at + w ≤ length f → getD (digitsAt o w f at) k 0 ≡ getD f (at + position o w k) 0
+pub digit-read : (o : Order) (w : ℕ) (f : List ℕ) (at k : ℕ) → k < w → at + w ≤ length f
+    → getD (digitsAt o w f at) k 0 ≡ getD f (at + position o w k) 0
 digit-read o w f at k h fits =
     let e : length (part at w f) ≡ w = length-part at w f fits in
     digit-at o (part at w f) k (omega arith)
@@ -96,11 +100,13 @@ written-part o w f at n h =
     subst (λ (x : ℕ). part at x (sets f at (encode o w n)) ≡ encode o w n) (length-encode o w n)
     (part-stored (encode o w n) f at 0 (rw (length-encode o w n) h))
 
-pub read-back : (o : Order) (w : ℕ) (f : List ℕ) (at n : ℕ) → at + w ≤ length f → n < 256 ^ w → numberAt o w (sets f at (encode o w n)) at ≡ n
+pub read-back : (o : Order) (w : ℕ) (f : List ℕ) (at n : ℕ) → at + w ≤ length f → n < 256 ^ w
+    → numberAt o w (sets f at (encode o w n)) at ≡ n
 read-back o w f at n h l = number-held o w (sets f at (encode o w n)) at n (written-part o w f at n h) l
 
 -- of any number the low w bytes are read back
-pub read-back-low : (o : Order) (w : ℕ) (f : List ℕ) (at n : ℕ) → at + w ≤ length f → numberAt o w (sets f at (encode o w n)) at ≡ n % 256 ^ w
+pub read-back-low : (o : Order) (w : ℕ) (f : List ℕ) (at n : ℕ) → at + w ≤ length f
+    → numberAt o w (sets f at (encode o w n)) at ≡ n % 256 ^ w
 unfolding numberAt
 read-back-low o w f at n h = ap (decode o) (written-part o w f at n h) ∙ decode-encode-low o w n
 
@@ -109,7 +115,8 @@ pub byte-frame : (o : Order) (w : ℕ) (f : List ℕ) (at n i : ℕ) → (i < at
 byte-frame o w f at n i h =
     ⊎-elim (λ lt. sets-below (encode o w n) f at i 0 lt) (λ ge. sets-above (encode o w n) f at i 0 (rw (length-encode o w n) ge)) h
 
-pub number-frame : (o p : Order) (w v : ℕ) (f : List ℕ) (at n b : ℕ) → Apart b v at w → numberAt p v (sets f at (encode o w n)) b ≡ numberAt p v f b
+pub number-frame : (o p : Order) (w v : ℕ) (f : List ℕ) (at n b : ℕ) → Apart b v at w
+    → numberAt p v (sets f at (encode o w n)) b ≡ numberAt p v f b
 unfolding numberAt
 number-frame o p w v f at n b h = ap (decode p) (part-apart (encode o w n) f at b v 0 (rw (length-encode o w n) h))
 
@@ -125,10 +132,12 @@ write-bytes o w f at n fits h i = step (where-is i at w)
     step (above ge) = rw (byte-frame o w f at n i (inr ge)) (h i)
 
 -- two writes elsewhere in either order, and two at one place, of which the last stands
-pub write-comm : (o p : Order) (w v : ℕ) (f : List ℕ) (at n b m : ℕ) → Apart at w b v → sets (sets f at (encode o w n)) b (encode p v m) ≡ sets (sets f b (encode p v m)) at (encode o w n)
+pub write-comm : (o p : Order) (w v : ℕ) (f : List ℕ) (at n b m : ℕ) → Apart at w b v
+    → sets (sets f at (encode o w n)) b (encode p v m) ≡ sets (sets f b (encode p v m)) at (encode o w n)
 write-comm o p w v f at n b m h = sets-comm (encode o w n) (encode p v m) f at b (rw (length-encode o w n, length-encode p v m) h)
 
-pub write-last : (o p : Order) (w : ℕ) (f : List ℕ) (at n m : ℕ) → sets (sets f at (encode o w n)) at (encode p w m) ≡ sets f at (encode p w m)
+pub write-last : (o p : Order) (w : ℕ) (f : List ℕ) (at n m : ℕ)
+    → sets (sets f at (encode o w n)) at (encode p w m) ≡ sets f at (encode p w m)
 write-last o p w f at n m = sets-last (encode o w n) (encode p w m) f at (length-encode o w n ∙ sym (length-encode p w m))
 
 -- ---- a number that is written digit by digit, the least significant first

@@ -77,10 +77,12 @@ signed-same o p f g at b e = ap (toZ w32) e
 pub signed-fits : (o : Order) (f : List ℕ) (at : ℕ) → Bytes f → SFits w32 (signedAt o f at)
 signed-fits o f at h = sfits-toZ (record { fits = number-bound o 4 f at h })
 
-pub signed-back : (o : Order) (f : List ℕ) (at : ℕ) (v : ℤ) → at + 4 ≤ length f → SFits w32 v → signedAt o (sets f at (encodeSigned o v)) at ≡ v
+pub signed-back : (o : Order) (f : List ℕ) (at : ℕ) (v : ℤ) → at + 4 ≤ length f → SFits w32 v
+    → signedAt o (sets f at (encodeSigned o v)) at ≡ v
 signed-back o f at v h s = ap (toZ w32) (read-back o 4 f at (ofZ w32 v) h (fits-ofZ s .fits)) ∙ toZ-ofZ s
 
-pub signed-frame : (o p : Order) (w : ℕ) (f : List ℕ) (at n b : ℕ) → Apart b 4 at w → signedAt p (sets f at (encode o w n)) b ≡ signedAt p f b
+pub signed-frame : (o p : Order) (w : ℕ) (f : List ℕ) (at n b : ℕ) → Apart b 4 at w
+    → signedAt p (sets f at (encode o w n)) b ≡ signedAt p f b
 signed-frame o p w f at n b h = signed-same p p (sets f at (encode o w n)) f b b (number-frame o p w 4 f at n b h)
 
 -- a signed local is kept as its bits, and what is read of them is the number
@@ -107,6 +109,7 @@ pub bits-pos : (z : ℤ) → SFits w32 z → leZ (pos 0) z ≡ true → T (nonNe
 bits-pos (pos n) f e = (tt, record { fits = omega arith }, refl)
 bits-pos (negsuc n) f e = absurd (false≢true e)
 
-pub bits-neg : (z : ℤ) → SFits w32 z → leZ (pos 0) z ≡ false → (negsuc 0 -ℤ z ≡ pos (mag z)) × (mag z < 2 ^ 31) × (4294967295 - mag z ≡ ofZ w32 z)
+pub bits-neg : (z : ℤ) → SFits w32 z → leZ (pos 0) z ≡ false
+    → (negsuc 0 -ℤ z ≡ pos (mag z)) × (mag z < 2 ^ 31) × (4294967295 - mag z ≡ ofZ w32 z)
 bits-neg (pos n) f e = absurd (false≢true (sym e ∙ le-leb 0 n zero-le))
 bits-neg (negsuc n) f e = (minus-neg n, f .sfits, omega arith)

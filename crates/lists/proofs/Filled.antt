@@ -29,7 +29,8 @@ module _ {A : Type 0} (f : ℕ → A) where
   filled-length i out h = length-append (listOf f i) (drop i out) ∙ omega (arith, length-listOf f i, length-drop i out)
 
   -- one turn more
-  pub filled-more : (i : ℕ) (out : List A) (d : A) → i < length out → set (listOf f i ++ drop i out) i (f i) ≡ listOf f (i + 1) ++ drop (i + 1) out
+  pub filled-more : (i : ℕ) (out : List A) (d : A) → i < length out
+      → set (listOf f i ++ drop i out) i (f i) ≡ listOf f (i + 1) ++ drop (i + 1) out
   unfolding listOf
   filled-more i out d h =
       rw (add-one i, drop-cons out i d h)
@@ -45,7 +46,8 @@ module _ {A : Type 0} (f : ℕ → A) where
       ∙ ap (λ (l : List A). set l (i + 3) (f (i + 3))) (next 2 3 (omega arith) (omega arith))
       ∙ next 3 4 (omega arith) (omega arith)
     where
-      next : (a b : ℕ) → i + a + 1 ≡ i + b → i + a < length out → set (listOf f (i + a) ++ drop (i + a) out) (i + a) (f (i + a)) ≡ listOf f (i + b) ++ drop (i + b) out
+      next : (a b : ℕ) → i + a + 1 ≡ i + b → i + a < length out
+          → set (listOf f (i + a) ++ drop (i + a) out) (i + a) (f (i + a)) ≡ listOf f (i + b) ++ drop (i + b) out
       next a b e lt = filled-more (i + a) out d lt ∙ ap (λ (x : ℕ). listOf f x ++ drop x out) e
 
   -- what is filled up to i is filled over itself up to i: the invariant of a loop that goes on where another stopped

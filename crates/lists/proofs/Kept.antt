@@ -16,7 +16,8 @@ module _ {A : Type 0} (t : A → Bool) where
   keep-append [] m = refl
   keep-append (x ∷ l) m = step (t x) (keep-append l m)
     where
-      step : (b : Bool) → keep t (l ++ m) ≡ keep t l ++ keep t m → pick b (x ∷ keep t (l ++ m)) (keep t (l ++ m)) ≡ pick b (x ∷ keep t l) (keep t l) ++ keep t m
+      step : (b : Bool) → keep t (l ++ m) ≡ keep t l ++ keep t m
+          → pick b (x ∷ keep t (l ++ m)) (keep t (l ++ m)) ≡ pick b (x ∷ keep t l) (keep t l) ++ keep t m
       step true e = ap (λ (k : List A). x ∷ k) e
       step false e = e
 
@@ -38,7 +39,8 @@ module _ {A : Type 0} (t : A → Bool) where
       more : List·Memᴰ x l × (t x ≡ true) → List·Memᴰ x (y ∷ l) × (t x ≡ true)
       more r = (List·Memᴰ·tail (r .0), r .1)
 
-      step : (b : Bool) → t y ≡ b → (List·Memᴰ x (keep t l) → List·Memᴰ x l × (t x ≡ true)) → List·Memᴰ x (pick b (y ∷ keep t l) (keep t l)) → List·Memᴰ x (y ∷ l) × (t x ≡ true)
+      step : (b : Bool) → t y ≡ b → (List·Memᴰ x (keep t l) → List·Memᴰ x l × (t x ≡ true))
+          → List·Memᴰ x (pick b (y ∷ keep t l) (keep t l)) → List·Memᴰ x (y ∷ l) × (t x ≡ true)
       step true e rec q = ⊎-elim (λ p. (List·Memᴰ·head p, ap t p ∙ e)) (λ r. more (rec r)) (List·Memᴰ·cases-cons q)
       step false e rec q = more (rec q)
 

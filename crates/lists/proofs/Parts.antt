@@ -41,7 +41,8 @@ module _ {A : Type 0} where
   part-right a n l k = ap (take n) (drop-append-add l k a)
 
   -- two lists that agree at a part's places have the same part there, if the part is as long in both
-  part-ext : (a n : ℕ) (l k : List A) (d : A) → length (part a n l) ≡ length (part a n k) → ((i : ℕ) → a ≤ i → i < a + n → getD l i d ≡ getD k i d) → part a n l ≡ part a n k
+  part-ext : (a n : ℕ) (l k : List A) (d : A) → length (part a n l) ≡ length (part a n k)
+      → ((i : ℕ) → a ≤ i → i < a + n → getD l i d ≡ getD k i d) → part a n l ≡ part a n k
   part-ext a n l k d e h =
       ext-getD d (part a n l) (part a n k) e
       (λ i lt.
@@ -49,9 +50,11 @@ module _ {A : Type 0} where
       getD-part a n l i d low ∙ h (a + i) (omega arith) (omega arith) ∙ sym (getD-part a n k i d low))
 
   -- so it is where the lists are equally long, and where the part is inside both
-  pub part-same : (a n : ℕ) (l k : List A) (d : A) → length l ≡ length k → ((i : ℕ) → a ≤ i → i < a + n → getD l i d ≡ getD k i d) → part a n l ≡ part a n k
+  pub part-same : (a n : ℕ) (l k : List A) (d : A) → length l ≡ length k → ((i : ℕ) → a ≤ i → i < a + n → getD l i d ≡ getD k i d)
+      → part a n l ≡ part a n k
   part-same a n l k d e h =
       part-ext a n l k d (omega (arith, length-take n (drop a l), length-drop a l, length-take n (drop a k), length-drop a k)) h
 
-  pub part-agree : (a n : ℕ) (l k : List A) (d : A) → a + n ≤ length l → a + n ≤ length k → ((i : ℕ) → a ≤ i → i < a + n → getD l i d ≡ getD k i d) → part a n l ≡ part a n k
+  pub part-agree : (a n : ℕ) (l k : List A) (d : A) → a + n ≤ length l → a + n ≤ length k
+      → ((i : ℕ) → a ≤ i → i < a + n → getD l i d ≡ getD k i d) → part a n l ≡ part a n k
   part-agree a n l k d p q h = part-ext a n l k d (length-part a n l p ∙ sym (length-part a n k q)) h

@@ -35,7 +35,8 @@ module _ {Store Answer Opened Value : Type 0} (S : System Store Answer Opened Va
       step (write r a b) e = L .opens (record { fit = ok; told = r; planned = e })
       step (refuse r) e = refl
 
-  meet-of : (f : List ℕ) (s t : Store) (i a : ℕ) → S .Fit s → S .Fit t → Covers i (S .plan f s) → SucceedsAt a (S .plan f s) → Covers i (S .plan f t) → SucceedsAt a (S .plan f t)
+  meet-of : (f : List ℕ) (s t : Store) (i a : ℕ) → S .Fit s → S .Fit t → Covers i (S .plan f s) → SucceedsAt a (S .plan f s)
+      → Covers i (S .plan f t) → SucceedsAt a (S .plan f t)
   meet-of f s t i a ok ok′ = step (S .plan f s) (S .plan f t) refl refl
     where
       step : (p q : Plan Answer) → S .plan f s ≡ p → S .plan f t ≡ q → Covers i p → SucceedsAt a p → Covers i q → SucceedsAt a q
@@ -63,7 +64,8 @@ module _ {Store Answer Opened Value : Type 0} (S : System Store Answer Opened Va
         opening = r .opening;
       }
 
-  pub answers-alone : (f g : List ℕ) (l : List Store) → All (S .Fit) l → S .opening g ≡ S .opening f → length g ≡ length f → answers S g l ≡ map (alone S f) l
+  pub answers-alone : (f g : List ℕ) (l : List Store) → All (S .Fit) l → S .opening g ≡ S .opening f → length g ≡ length f
+      → answers S g l ≡ map (alone S f) l
   answers-alone f g l ok v n = planned f g l ok v n .told
 
   pub opening-after : (f : List ℕ) (l : List Store) → All (S .Fit) l → S .opening (fileAfter S f l) ≡ S .opening f
@@ -73,16 +75,19 @@ module _ {Store Answer Opened Value : Type 0} (S : System Store Answer Opened Va
   length-after-all f l ok = ap length (planned f f l ok refl refl .bytes) ∙ length-carried (S .plan f) f l
 
   -- stores at one address in the same order leave the same bytes
-  same-bytes : (f : List ℕ) (l m : List Store) → All (S .Fit) l → All (S .Fit) m → Order l m → ((a : ℕ) → storesAt S f a l ≡ storesAt S f a m) → carried (S .plan f) f l ≡ carried (S .plan f) f m
+  same-bytes : (f : List ℕ) (l m : List Store) → All (S .Fit) l → All (S .Fit) m → Order l m
+      → ((a : ℕ) → storesAt S f a l ≡ storesAt S f a m) → carried (S .plan f) f l ≡ carried (S .plan f) f m
   unfolding storesAt
   same-bytes f l m ok ok′ o e =
       ext-getD 0 _ _ (length-carried (S .plan f) f l ∙ sym (length-carried (S .plan f) f m)) (λ i h. step i (find (S .plan f) i l))
     where
-      at-address : (i a : ℕ) (s : Store) → S .Fit s → Covers i (S .plan f s) → SucceedsAt a (S .plan f s) → (k : List Store) → All (S .Fit) k → getD (carried (S .plan f) f k) i 0 ≡ getD (carried (S .plan f) f (here (S .plan f) a k)) i 0
+      at-address : (i a : ℕ) (s : Store) → S .Fit s → Covers i (S .plan f s) → SucceedsAt a (S .plan f s) → (k : List Store)
+          → All (S .Fit) k → getD (carried (S .plan f) f k) i 0 ≡ getD (carried (S .plan f) f (here (S .plan f) a k)) i 0
       at-address i a s oks c w k okk =
           carried-here (S .plan f) (length f) i a f f k (λ t tk v. meet-of f s t i a oks (okk t tk) c w v) (λ t tk. inside-of f t (okk t tk)) refl refl refl
 
-      step : (i : ℕ) → ((s : Store) × List·Memᴰ s l × Covers i (S .plan f s)) ⊎ All (λ s. ¬ Covers i (S .plan f s)) l → getD (carried (S .plan f) f l) i 0 ≡ getD (carried (S .plan f) f m) i 0
+      step : (i : ℕ) → ((s : Store) × List·Memᴰ s l × Covers i (S .plan f s)) ⊎ All (λ s. ¬ Covers i (S .plan f s)) l
+          → getD (carried (S .plan f) f l) i 0 ≡ getD (carried (S .plan f) f m) i 0
       step i (inl (s, sl, c)) =
           let w = address i (S .plan f s) c in
           at-address i (w .0) s (ok s sl) c (w .1) l ok
@@ -92,7 +97,8 @@ module _ {Store Answer Opened Value : Type 0} (S : System Store Answer Opened Va
           carried-other (S .plan f) i f l h ∙ sym (carried-other (S .plan f) i f m (λ t tm. h t (order-mem (Permᴰ·symm o) tm)))
 
   -- the last store at an address is read back
-  read-last : (f : List ℕ) (l : List Store) → All (S .Fit) l → (a : ℕ) (before : List Store) (s : Store) → storesAt S f a l ≡ before ++ s ∷ [] → S .read (fileAfter S f l) s ≡ S .number s
+  read-last : (f : List ℕ) (l : List Store) → All (S .Fit) l → (a : ℕ) (before : List Store) (s : Store)
+      → storesAt S f a l ≡ before ++ s ∷ [] → S .read (fileAfter S f l) s ≡ S .number s
   unfolding storesAt carried
   read-last f l ok a before s e = step (S .plan f s) refl (in-l .1)
     where
@@ -155,7 +161,8 @@ module _ {Store Answer Opened Value : Type 0} (S : System Store Answer Opened Va
   one-each f [] d a = omega arith
   one-each f (s ∷ l) (apart, d) a = step (succeedsAt a (S .plan f s)) (one-each f l d a)
     where
-      step : (x : Dec (SucceedsAt a (S .plan f s))) → length (here (S .plan f) a l) ≤ 1 → length (ite {C = List Store} x (s ∷ here (S .plan f) a l) (here (S .plan f) a l)) ≤ 1
+      step : (x : Dec (SucceedsAt a (S .plan f s))) → length (here (S .plan f) a l) ≤ 1
+          → length (ite {C = List Store} x (s ∷ here (S .plan f) a l) (here (S .plan f) a l)) ≤ 1
       step (yes w) h =
           let e : here (S .plan f) a l ≡ [] = none-here (S .plan f) a l (λ t m v. apart t m a w v) in
           rw e (omega arith)

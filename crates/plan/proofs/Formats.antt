@@ -29,7 +29,8 @@ on-lattice i base w j k h₁ h₂ h₃ h₄ = step (decLt j k) (decLt k j)
     step (no h) (no g) = omega arith
 
 -- a choice between a plan and a refusal that writes is the plan
-pick-write : {A : Type 0} (t : Bool) (p : Plan A) (r q : A) (a : ℕ) (b : List ℕ) → pick t p (refuse r) ≡ write q a b → (t ≡ true) × (p ≡ write q a b)
+pick-write : {A : Type 0} (t : Bool) (p : Plan A) (r q : A) (a : ℕ) (b : List ℕ) → pick t p (refuse r) ≡ write q a b
+    → (t ≡ true) × (p ≡ write q a b)
 pick-write true p r q a b e = (refl, e)
 pick-write false p r q a b e = let z : _≡_ {A = ℕ} 0 1 = cc in let y : ⊥ = omega arith in absurd y
 
@@ -46,10 +47,12 @@ module _ {Store Key Opened Answer Value : Type 0} (F : Format Store Key Opened A
     of {f} {s} w = write-fresh f s (w .fit .1) (w .planned)
 
     -- the places of one key stand on one lattice
-    on : {f : List ℕ} {s : Store} {a : ℕ} {b : List ℕ} → Stores.Writes (system F k) f s a b → (j : ℕ) × (a ≡ W .base f k + j * W .width f k) × (length b ≡ W .width f k)
+    on : {f : List ℕ} {s : Store} {a : ℕ} {b : List ℕ} → Stores.Writes (system F k) f s a b
+        → (j : ℕ) × (a ≡ W .base f k + j * W .width f k) × (length b ≡ W .width f k)
     on w = rw (← w .fit .0) (W .lattice (of w))
 
-    meets : {f : List ℕ} {s t : Store} {a c : ℕ} {b d : List ℕ} → Stores.Writes (system F k) f s a b → Stores.Writes (system F k) f t c d → (i : ℕ) → a ≤ i → i < a + length b → c ≤ i → i < c + length d → a ≡ c
+    meets : {f : List ℕ} {s t : Store} {a c : ℕ} {b d : List ℕ} → Stores.Writes (system F k) f s a b → Stores.Writes (system F k) f t c d
+        → (i : ℕ) → a ≤ i → i < a + length b → c ≤ i → i < c + length d → a ≡ c
     meets {f = f} w v i h₁ h₂ h₃ h₄ =
         let (x, xa, xb) = on w in
         let (y, ya, yb) = on v in

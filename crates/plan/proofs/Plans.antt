@@ -30,7 +30,8 @@ module _ {Answer : Type 0} where
       step (above g) = sets-above b f a i 0 g
 
   -- what a store leaves at a byte depends on that byte alone
-  pub after-agree : (n : ℕ) (f g : List ℕ) (p : Plan Answer) (i : ℕ) → length f ≡ n → length g ≡ n → Inside n p → getD f i 0 ≡ getD g i 0 → getD (after f p) i 0 ≡ getD (after g p) i 0
+  pub after-agree : (n : ℕ) (f g : List ℕ) (p : Plan Answer) (i : ℕ) → length f ≡ n → length g ≡ n → Inside n p → getD f i 0 ≡ getD g i 0
+      → getD (after f p) i 0 ≡ getD (after g p) i 0
   after-agree n f g (refuse r) i lf lg h e = e
   after-agree n f g (write r a b) i lf lg h e = step (where-is i a (length b))
     where

@@ -36,7 +36,9 @@ module _ {X Answer : Type 0} (P : X → Plan Answer) where
   here a l = filter {p = λ s. SucceedsAt a (P s)} (λ s. succeedsAt a (P s)) l
 
   -- at a byte that only stores at address a cover, these alone count
-  pub carried-here : (n i a : ℕ) (g k : List ℕ) (l : List X) → All (λ s. Covers i (P s) → SucceedsAt a (P s)) l → All (λ s. Inside n (P s)) l → length g ≡ n → length k ≡ n → getD g i 0 ≡ getD k i 0 → getD (carried g l) i 0 ≡ getD (carried k (here a l)) i 0
+  pub carried-here : (n i a : ℕ) (g k : List ℕ) (l : List X) → All (λ s. Covers i (P s) → SucceedsAt a (P s)) l
+      → All (λ s. Inside n (P s)) l → length g ≡ n → length k ≡ n → getD g i 0 ≡ getD k i 0
+      → getD (carried g l) i 0 ≡ getD (carried k (here a l)) i 0
   unfolding carried
   carried-here n i a g k [] h fit lg lk e = e
   carried-here n i a g k (s ∷ l) h fit lg lk e =
@@ -80,11 +82,13 @@ module _ {X Answer : Type 0} (P : X → Plan Answer) where
       more : List·Memᴰ s l × SucceedsAt a (P s) → List·Memᴰ s (x ∷ l) × SucceedsAt a (P s)
       more r = (List·Memᴰ·tail (r .0), r .1)
 
-      first : SucceedsAt a (P x) → (List·Memᴰ s (here a l) → List·Memᴰ s l × SucceedsAt a (P s)) → (s ≡ x) ⊎ List·Memᴰ s (here a l) → List·Memᴰ s (x ∷ l) × SucceedsAt a (P s)
+      first : SucceedsAt a (P x) → (List·Memᴰ s (here a l) → List·Memᴰ s l × SucceedsAt a (P s)) → (s ≡ x) ⊎ List·Memᴰ s (here a l)
+          → List·Memᴰ s (x ∷ l) × SucceedsAt a (P s)
       first v rec (inl e) = (List·Memᴰ·head e, rw e v)
       first v rec (inr k) = more (rec k)
 
-      step : (d : Dec (SucceedsAt a (P x))) → (List·Memᴰ s (here a l) → List·Memᴰ s l × SucceedsAt a (P s)) → List·Memᴰ s (ite {C = List X} d (x ∷ here a l) (here a l)) → List·Memᴰ s (x ∷ l) × SucceedsAt a (P s)
+      step : (d : Dec (SucceedsAt a (P x))) → (List·Memᴰ s (here a l) → List·Memᴰ s l × SucceedsAt a (P s))
+          → List·Memᴰ s (ite {C = List X} d (x ∷ here a l) (here a l)) → List·Memᴰ s (x ∷ l) × SucceedsAt a (P s)
       step (yes v) rec k = first v rec (List·Memᴰ·cases-cons k)
       step (no v) rec k = more (rec k)
 
@@ -101,7 +105,8 @@ module _ {X Answer : Type 0} (P : X → Plan Answer) where
   find i [] = inr (λ s m. absurd (List·Memᴰ·not-nil m))
   find i (s ∷ l) = step (covers i (P s)) (find i l)
     where
-      step : Dec (Covers i (P s)) → ((t : X) × List·Memᴰ t l × Covers i (P t)) ⊎ All (λ t. ¬ Covers i (P t)) l → ((t : X) × List·Memᴰ t (s ∷ l) × Covers i (P t)) ⊎ All (λ t. ¬ Covers i (P t)) (s ∷ l)
+      step : Dec (Covers i (P s)) → ((t : X) × List·Memᴰ t l × Covers i (P t)) ⊎ All (λ t. ¬ Covers i (P t)) l
+          → ((t : X) × List·Memᴰ t (s ∷ l) × Covers i (P t)) ⊎ All (λ t. ¬ Covers i (P t)) (s ∷ l)
       step (yes c) r = inl (s, List·Memᴰ·head refl, c)
       step (no c) (inl w) = inl (w .0, List·Memᴰ·tail (w .1), w .2)
       step (no c) (inr h) = inr (λ t m. cons t (List·Memᴰ·cases-cons m))

@@ -29,8 +29,10 @@ module _ {Store Answer Opened Value : Type 0} (S : System Store Answer Opened Va
     -- length alone.
     pub record CallLaws : Type 0 where
       pub fit : (f : List ℕ) (c : Call) → C .Fit c → All (S .Fit) (C .makes f c)
-      pub makes-by-opening : (f g : List ℕ) (c : Call) → C .Fit c → S .opening f ≡ S .opening g → length f ≡ length g → C .makes f c ≡ C .makes g c
-      pub whole-by-opening : (f g : List ℕ) (c : Call) → C .Fit c → S .opening f ≡ S .opening g → length f ≡ length g → C .whole f c ≡ C .whole g c
+      pub makes-by-opening : (f g : List ℕ) (c : Call) → C .Fit c → S .opening f ≡ S .opening g → length f ≡ length g
+          → C .makes f c ≡ C .makes g c
+      pub whole-by-opening : (f g : List ℕ) (c : Call) → C .Fit c → S .opening f ≡ S .opening g → length f ≡ length g
+          → C .whole f c ≡ C .whole g c
 
     -- the file after calls made one after another
     unfoldable pub fileAfterCalls : List ℕ → List Call → List ℕ
@@ -73,4 +75,5 @@ module _ {Store Answer Opened Value : Type 0} (S : System Store Answer Opened Va
 
     -- request 13 over calls: the items of the two lists are the same, each as often, and those at the same place stand in the same order
     abbrev pub Request13Calls : Type 0
-    Request13Calls = (f : List ℕ) (l m : List Call) → All (C .Fit) l → All (C .Fit) m → Order (items f l) (items f m) → ((a : ℕ) → storesAt S f a (items f l) ≡ storesAt S f a (items f m)) → CallsLast f l m
+    Request13Calls = (f : List ℕ) (l m : List Call) → All (C .Fit) l → All (C .Fit) m → Order (items f l) (items f m)
+        → ((a : ℕ) → storesAt S f a (items f l) ≡ storesAt S f a (items f m)) → CallsLast f l m

@@ -45,4 +45,5 @@ module _ {Store Answer Opened Value : Type 0} (S : System Store Answer Opened Va
 
   -- Request 13: the two lists "hold the same stores, each as often", and "stores to the same place stand in the same order in both".
   abbrev pub Request13 : Type 0
-  Request13 = (f : List ℕ) (l m : List Store) → All (S .Fit) l → Order l m → ((a : ℕ) → storesAt S f a l ≡ storesAt S f a m) → LastStands f l m
+  Request13 = (f : List ℕ) (l m : List Store) → All (S .Fit) l → Order l m → ((a : ℕ) → storesAt S f a l ≡ storesAt S f a m)
+      → LastStands f l m

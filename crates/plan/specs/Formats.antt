@@ -67,11 +67,13 @@ module _ {Store Key Opened Answer Value : Type 0} (F : Format Store Key Opened A
     -- a place is inside the file
     pub inside : {f : List ℕ} {s : Store} {a : ℕ} {b : List ℕ} → Writes f s a b → a + length b ≤ length f
     -- after a store opening answers as before, for every grid number
-    pub frame : {f : List ℕ} {s : Store} {a : ℕ} {b : List ℕ} → Writes f s a b → (g : ℕ) → F .open-as (sets f a b) (F .key s) g ≡ F .open-as f (F .key s) g
+    pub frame : {f : List ℕ} {s : Store} {a : ℕ} {b : List ℕ} → Writes f s a b → (g : ℕ)
+        → F .open-as (sets f a b) (F .key s) g ≡ F .open-as f (F .key s) g
     -- all places of one file and key are equally wide and stand at multiples of the width from one base, so that two of them
     -- are equal or share no byte
     pub base : List ℕ → Key → ℕ
     pub width : List ℕ → Key → ℕ
-    pub lattice : {f : List ℕ} {s : Store} {a : ℕ} {b : List ℕ} → Writes f s a b → (j : ℕ) × (a ≡ base f (F .key s) + j * width f (F .key s)) × (length b ≡ width f (F .key s))
+    pub lattice : {f : List ℕ} {s : Store} {a : ℕ} {b : List ℕ} → Writes f s a b
+        → (j : ℕ) × (a ≡ base f (F .key s) + j * width f (F .key s)) × (length b ≡ width f (F .key s))
     -- where a place holds a store's bytes, the read answers the store's number
     pub reads : {f : List ℕ} {s : Store} {a : ℕ} {b : List ℕ} → Writes f s a b → Holds f a b → F .read f s ≡ F .number s

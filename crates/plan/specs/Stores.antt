@@ -56,7 +56,8 @@ module _ {Store Answer Opened Value : Type 0} (S : System Store Answer Opened Va
   -- store s on f answers r and leaves g.
   pub data Run : List ℕ → List Store → List Answer → List ℕ → Type 0 where
     done : {f h : List ℕ} → h ≡ f → Run f [] [] h
-    call : {f g h : List ℕ} {s : Store} {l : List Store} {r : Answer} {rs : List Answer} → (r, g) ≡ outcome f (S .plan f s) → Run g l rs h → Run f (s ∷ l) (r ∷ rs) h
+    call : {f g h : List ℕ} {s : Store} {l : List Store} {r : Answer} {rs : List Answer} → (r, g) ≡ outcome f (S .plan f s)
+        → Run g l rs h → Run f (s ∷ l) (r ∷ rs) h
 
   -- a store that is meant succeeds, and writes b at address a
   pub record Writes (f : List ℕ) (s : Store) (a : ℕ) (b : List ℕ) : Type 0 where
@@ -73,6 +74,7 @@ module _ {Store Answer Opened Value : Type 0} (S : System Store Answer Opened Va
     -- a store leaves what opening answers
     pub opens : {f : List ℕ} {s : Store} {a : ℕ} {b : List ℕ} → Writes f s a b → S .opening (sets f a b) ≡ S .opening f
     -- two places that share a byte have the same address
-    pub meet : {f : List ℕ} {s t : Store} {a c : ℕ} {b d : List ℕ} → Writes f s a b → Writes f t c d → (i : ℕ) → a ≤ i → i < a + length b → c ≤ i → i < c + length d → a ≡ c
+    pub meet : {f : List ℕ} {s t : Store} {a c : ℕ} {b d : List ℕ} → Writes f s a b → Writes f t c d → (i : ℕ) → a ≤ i → i < a + length b
+        → c ≤ i → i < c + length d → a ≡ c
     -- a place that holds a store's bytes reads back as its number
     pub reads : {f : List ℕ} {s : Store} {a : ℕ} {b : List ℕ} → Writes f s a b → Holds f a b → S .read f s ≡ S .number s

@@ -19,7 +19,8 @@ month-small c =
     omega (arith, month-is c, month-lies (leap (a .year)) (a .day) 11 .month)
 
 -- the days before it
-days-are : (c : tie.After-days-before) → let a = c .before .before .before .args in c .days-before .result ≡ daysBefore (leap (a .year)) (monthOf (leap (a .year)) (a .day))
+days-are : (c : tie.After-days-before)
+    → let a = c .before .before .before .args in c .days-before .result ≡ daysBefore (leap (a .year)) (monthOf (leap (a .year)) (a .day))
 days-are c = c .days-before .ensures ∙ ap₂ daysBefore (c .before .before .is-leap .ensures) (month-is (c .before))
 
 is-leap-requires : tie.Need-is-leap-requires

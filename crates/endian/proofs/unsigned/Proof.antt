@@ -23,7 +23,8 @@ pos-case : (c : tie.Then1) → let v = c .before .args .v in T (nonNeg v) × Fit
 pos-case c =
     bits-pos (c .before .args .v) (c .before .fits .v) (subst (λ (z : ℤ). leZ (pos 0) z ≡ true) (same (c .before)) (c .if1 .taken))
 
-neg-case : (c : tie.Else1) → let v = c .before .args .v in (negsuc 0 -ℤ v ≡ pos (mag v)) × (mag v < 2 ^ 31) × (4294967295 - mag v ≡ ofZ w32 v)
+neg-case : (c : tie.Else1)
+    → let v = c .before .args .v in (negsuc 0 -ℤ v ≡ pos (mag v)) × (mag v < 2 ^ 31) × (4294967295 - mag v ≡ ofZ w32 v)
 neg-case c =
     bits-neg (c .before .args .v) (c .before .fits .v) (subst (λ (z : ℤ). leZ (pos 0) z ≡ false) (same (c .before)) (c .if1 .left))
 
