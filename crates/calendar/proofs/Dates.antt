@@ -1,57 +1,82 @@
 -- A date word's answer is the only date of the Gregorian calendar with that yyyddd, and a word that is refused has none.
 -- Assumes nothing.
 use mathlib.Core.Path.{_≡_, refl, sym, ap, ap₂, _∙_}
-use mathlib.Core.Bool.{Bool}
-use mathlib.Core.Logic.{_↔_}
+use mathlib.Core.Bool.{Bool, false≢true}
+use mathlib.Core.Logic.{_↔_, _⊎_, inl, inr}
 use Prim.Native.Nat.{ℕ, suc, _+_, _-_, _*_, _≤_, _<_}
 use native.Mathlib.Omega.{arith}
+use lib.Dec.{leb·zero}
 use lib.IntN.{ℤ, pos, negsuc, pos-ne-negsuc}
 use lib.ListN.{getD}
 use borrow.Author.Tests.{leb-true, le-leb}
-use Rattle.refusal.specs.Rules.{Hold, Tells}
+use Rattle.refusal.specs.Rules.{Hold, AnswerType}
 use Rattle.refusal.specs.declared.Refusal.{Refusal}
 use Rattle.refusal.proofs.Exactness.{within-exactly}
 use Rattle.refusal.proofs.Tables.{value-exactly, refused-same, exactly-one, exactly-none}
 use Rattle.calendar.specs.Gregorian.{leap, monthLengths, daysBefore, yearLength, IsDate, dayOfYear, monthOf, dateIn}
-use Rattle.calendar.specs.Dates.{yearOf, dayOf, dateRules, dateOfNumber, dateOf, DateWord}
+use Rattle.calendar.specs.Dates.{yearOf, dayOf, dateRules, dateOf, DateWord}
 use Rattle.calendar.specs.declared.Date.{Date}
+use Rattle.calendar.specs.declared.DateAnswer.{DateAnswer}
 use Rattle.calendar.specs.declared.DateAnswer.the-variants.{On, Refused}
 use Rattle.calendar.proofs.Months.{days-mono, year-most, month-only, Lies, month-lies}
 
-tells : Tells On Refused
-tells = record { values = λ e. cc; refusals = λ e. cc; apart = λ e. let z : _≡_ {A = ℕ} 0 1 = cc in omega arith }
+answers : AnswerType On Refused
+answers =
+    record {
+      cases = either-case;
+      values = λ e. cc;
+      refusals = λ e. cc;
+      apart = λ e. let z : _≡_ {A = ℕ} 0 1 = cc in omega arith;
+    }
+  where
+    either-case : (x : DateAnswer) → ((d : Date) × (x ≡ On d)) ⊎ ((r : Refusal) × (x ≡ Refused r))
+    either-case (On d) = inl (d, refl)
+    either-case (Refused r) = inr (r, refl)
 
 -- ---- the rules
 
+-- what the rules say of a word that is not negative
 pub record Accepted (n : ℕ) : Type 0 where
   pub range : n ≤ 999999
-  pub day-from : 1 ≤ dayOf n
-  pub day-to : dayOf n ≤ yearLength (leap (yearOf n))
+  pub day-from : 1 ≤ dayOf (pos n)
+  pub day-to : dayOf (pos n) ≤ yearLength (leap (yearOf (pos n)))
 
-pub hold-accepted : (n : ℕ) → Hold (dateRules n) → Accepted n
+-- where they hold
+pub hold-accepted : (n : ℕ) → Hold (dateRules (pos n)) → Accepted n
 unfolding dateRules
 hold-accepted n h =
-    let day : (1 ≤ dayOf n) × (dayOf n ≤ yearLength (leap (yearOf n))) = within-exactly 1 (yearLength (leap (yearOf n))) (dayOf n) .sound (h .1 .0) in
-    record { range = leb-true n 999999 (h .0); day-from = day .0; day-to = day .1 }
+    let day : (1 ≤ dayOf (pos n)) × (dayOf (pos n) ≤ yearLength (leap (yearOf (pos n)))) =
+    within-exactly 1 (yearLength (leap (yearOf (pos n)))) (dayOf (pos n)) .sound (h .1 .1 .0) in
+    record { range = leb-true n 999999 (h .1 .0); day-from = day .0; day-to = day .1 }
 
-pub accepted-hold : (n : ℕ) → Accepted n → Hold (dateRules n)
+accepted-hold : (n : ℕ) → Accepted n → Hold (dateRules (pos n))
 unfolding dateRules
-accepted-hold n a =
-    (le-leb n 999999 (a .range), (within-exactly 1 (yearLength (leap (yearOf n))) (dayOf n) .complete (a .day-from, a .day-to), tt))
+accepted-hold n a = (
+  leb·zero n,
+  (
+    le-leb n 999999 (a .range),
+    (within-exactly 1 (yearLength (leap (yearOf (pos n)))) (dayOf (pos n)) .complete (a .day-from, a .day-to), tt),
+  ),
+)
+
+-- they do not hold of a negative word
+hold-negative : (n : ℕ) → Hold (dateRules (negsuc n)) → ⊥
+unfolding dateRules
+hold-negative n h = false≢true (h .0)
 
 -- ---- from a word to its date
 
 -- the date of an accepted word is one, and the word is its yyyddd
-accepted-word : (n : ℕ) → Accepted n → DateWord (pos n) (dateIn (yearOf n) (dayOf n))
+accepted-word : (n : ℕ) → Accepted n → DateWord (pos n) (dateIn (yearOf (pos n)) (dayOf (pos n)))
 unfolding dateIn daysBefore
 accepted-word n a =
-    let isLeap : Bool = leap (yearOf n) in
-    let m : ℕ = monthOf isLeap (dayOf n) in
-    let l : Lies isLeap (dayOf n) 11 m = month-lies isLeap (dayOf n) 11 in
-    let starts : daysBefore isLeap m < dayOf n = l .starts (a .day-from) in
-    let ends : dayOf n ≤ daysBefore isLeap m + getD (monthLengths isLeap) m 0 = l .ends (a .day-to) in
+    let isLeap : Bool = leap (yearOf (pos n)) in
+    let m : ℕ = monthOf isLeap (dayOf (pos n)) in
+    let l : Lies isLeap (dayOf (pos n)) 11 m = month-lies isLeap (dayOf (pos n)) 11 in
+    let starts : daysBefore isLeap m < dayOf (pos n) = l .starts (a .day-from) in
+    let ends : dayOf (pos n) ≤ daysBefore isLeap m + getD (monthLengths isLeap) m 0 = l .ends (a .day-to) in
     let same : m + 1 - 1 ≡ m = omega arith in
-    let whole : n ≡ 1000 * (yearOf n - 1900) + (daysBefore isLeap m + (dayOf n - daysBefore isLeap m)) = omega arith in
+    let whole : n ≡ 1000 * (yearOf (pos n) - 1900) + (daysBefore isLeap m + (dayOf (pos n) - daysBefore isLeap m)) = omega arith in
     record {
       date =
           record {
@@ -86,12 +111,12 @@ module _ (d : Date) (is : IsDate d) where
       λ i. record { year = d .year; month = month i; day = day i }
 
 -- the rules hold of the yyyddd of a date, and the date that it gives is that one
-word-accepted : (d : Date) (n : ℕ) → DateWord (pos n) d → Accepted n × (d ≡ dateIn (yearOf n) (dayOf n))
+word-accepted : (d : Date) (n : ℕ) → DateWord (pos n) d → Accepted n × (d ≡ dateIn (yearOf (pos n)) (dayOf (pos n)))
 word-accepted d n w =
     let e : n ≡ 1000 * (d .year - 1900) + dayOfYear d = cc (w .yyyddd) in
     let most : dayOfYear d ≤ 366 = omega (arith, day-to-year d (w .date), year-most (leap (d .year))) in
-    let year : d .year ≡ yearOf n = omega (arith, w .since) in
-    let day : dayOfYear d ≡ dayOf n = omega arith in (
+    let year : d .year ≡ yearOf (pos n) = omega (arith, w .since) in
+    let day : dayOfYear d ≡ dayOf (pos n) = omega arith in (
       record {
         range = omega (arith, w .range);
         day-from = omega (arith, w .date .day-from);
@@ -102,30 +127,25 @@ word-accepted d n w =
 
 -- ---- the claim
 
-number-exactly : (n : ℕ) (d : Date) → (dateOfNumber n ≡ On d) ↔ DateWord (pos n) d
-unfolding dateOfNumber
-number-exactly n d =
-    let x = value-exactly tells (dateRules n) (dateIn (yearOf n) (dayOf n)) d in (
-      λ e. rw (x .0 e .1) (accepted-word n (hold-accepted n (x .0 e .0))),
-      λ w. let a = word-accepted d n w in x .1 (accepted-hold n (a .0), a .1),
-    )
-
 -- the answer is a date exactly where the word is that date's yyyddd
 pub date-exactly : (z : ℤ) (d : Date) → (dateOf z ≡ On d) ↔ DateWord z d
 unfolding dateOf
-date-exactly (pos n) d = number-exactly n d
+date-exactly (pos n) d =
+    let x = value-exactly answers (dateRules (pos n)) (dateIn (yearOf (pos n)) (dayOf (pos n))) d in (
+      λ e. rw (x .0 e .1) (accepted-word n (hold-accepted n (x .0 e .0))),
+      λ w. let a = word-accepted d n w in x .1 (accepted-hold n (a .0), a .1),
+    )
 date-exactly (negsuc n) d =
-    (λ e. absurd (tells .apart (sym e)), λ w. absurd (pos-ne-negsuc _ n (sym (w .yyyddd))))
+    let x = value-exactly answers (dateRules (negsuc n)) (dateIn (yearOf (negsuc n)) (dayOf (negsuc n))) d in
+    (λ e. absurd (hold-negative n (x .0 e .0)), λ w. absurd (pos-ne-negsuc _ n (sym (w .yyyddd))))
 
 -- so there is at most one such date
 pub date-only : (z : ℤ) (d e : Date) → DateWord z d → DateWord z e → d ≡ e
-date-only = exactly-one tells dateOf DateWord date-exactly
+date-only = exactly-one answers dateOf DateWord date-exactly
 
--- a refusal is 11 at place 0, and then there is none
-refusal-is : (z : ℤ) (r : Refusal) → dateOf z ≡ Refused r → r ≡ record { number = 11; place = 0 }
-unfolding dateOf dateOfNumber dateRules
-refusal-is (pos n) r e = refused-same tells (dateRules n) (dateIn (yearOf n) (dayOf n)) _ r (refl, (refl, tt)) e
-refusal-is (negsuc n) r e = sym (tells .refusals e)
-
-pub date-refused : (z : ℤ) (r : Refusal) → dateOf z ≡ Refused r → (r ≡ record { number = 11; place = 0 }) × ((d : Date) → ¬ DateWord z d)
-date-refused z r e = (refusal-is z r e, exactly-none tells dateOf DateWord date-exactly z r e)
+-- and the answer is refusal 11 at place 0 exactly where there is none
+pub date-refused : (z : ℤ) → (dateOf z ≡ Refused (record { number = 11; place = 0 })) ↔ ((d : Date) → ¬ DateWord z d)
+unfolding dateOf dateRules
+date-refused =
+    exactly-none answers dateOf DateWord date-exactly _
+    (λ z r e. refused-same answers (dateRules z) (dateIn (yearOf z) (dayOf z)) _ r (refl, (refl, (refl, tt))) e)

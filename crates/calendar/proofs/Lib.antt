@@ -1,5 +1,4 @@
 pub mod Months
-pub mod Signs
 pub mod Dates
 pub mod Times
 mod Worked

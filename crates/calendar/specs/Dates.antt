@@ -1,11 +1,12 @@
 -- Date words: document 01, "Dates". yyyddd is 1000·(year - 1900) + day of the year, from 0 to 999,999, the day within that
--- Gregorian year. A word is signed, and a negative one is no date.
+-- Gregorian year. A word is signed.
 -- Assumes nothing.
 use mathlib.Core.Path.{_≡_}
 use mathlib.Core.List.{List, [], _∷_}
 use Prim.Native.Nat.{ℕ, _+_, _-_, _*_, _/_, _%_, _≤_}
 use lib.Dec.{leb}
-use lib.IntN.{ℤ, pos, negsuc}
+use lib.IntN.{ℤ, pos, natAbs}
+use lib.Signed.{leZ}
 use Rattle.refusal.specs.Rules.{Rule, rule, firstFault, answered}
 use Rattle.refusal.specs.Tests.{within}
 use Rattle.calendar.specs.Gregorian.{leap, yearLength, IsDate, dayOfYear, dateIn}
@@ -13,29 +14,25 @@ use Rattle.calendar.specs.declared.Date.{Date}
 use Rattle.calendar.specs.declared.DateAnswer.{DateAnswer}
 use Rattle.calendar.specs.declared.DateAnswer.the-variants.{On, Refused}
 
--- the year that yyyddd holds
-abbrev pub yearOf : ℕ → ℕ
-yearOf n = 1900 + n / 1000
+-- the year that a word holds
+abbrev pub yearOf : ℤ → ℕ
+yearOf word = 1900 + natAbs word / 1000
 
 -- the day of the year that it holds
-abbrev pub dayOf : ℕ → ℕ
-dayOf n = n % 1000
+abbrev pub dayOf : ℤ → ℕ
+dayOf word = natAbs word % 1000
 
 -- the rules of a date word: refusal 11, place 0
-unfoldable pub dateRules : ℕ → List Rule
-dateRules n =
-    rule (leb n 999999) 11 0
-    ∷ rule (within 1 (yearLength (leap (yearOf n))) (dayOf n)) 11 0
+unfoldable pub dateRules : ℤ → List Rule
+dateRules word =
+    rule (leZ (pos 0) word) 11 0
+    ∷ rule (leb (natAbs word) 999999) 11 0
+    ∷ rule (within 1 (yearLength (leap (yearOf word))) (dayOf word)) 11 0
     ∷ []
 
--- the date, or the refusal of the first rule that fails
-unfoldable pub dateOfNumber : ℕ → DateAnswer
-dateOfNumber n = answered On Refused (firstFault (dateRules n)) (dateIn (yearOf n) (dayOf n))
-
--- the answer of the date call
+-- the answer of the date call: the date, or the refusal of the first rule that fails
 unfoldable pub dateOf : ℤ → DateAnswer
-dateOf (pos n) = dateOfNumber n
-dateOf (negsuc n) = Refused (record { number = 11; place = 0 })
+dateOf word = answered On Refused (firstFault (dateRules word)) (dateIn (yearOf word) (dayOf word))
 
 -- a word is the yyyddd of a date
 pub record DateWord (word : ℤ) (d : Date) : Type 0 where

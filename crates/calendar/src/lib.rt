@@ -7,10 +7,11 @@ use refusal::check;
 use refusal::or;
 use refusal::within;
 ghost use mathlib.Core.Path.{_≡_};
+ghost use lib.IntN.{pos};
 ghost use Prim.Native.Nat.{_≤_, _<_};
 ghost use Rattle.calendar.specs.Gregorian.{leap, daysBefore, yearLength, monthOf, dateIn};
-ghost use Rattle.calendar.specs.Dates.{dateOf, dateOfNumber};
-ghost use Rattle.calendar.specs.Times.{timeOf, timeOfNumber};
+ghost use Rattle.calendar.specs.Dates.{dateOf};
+ghost use Rattle.calendar.specs.Times.{timeOf};
 
 // A date of the Gregorian calendar. Months and days are counted from 1.
 pub struct Date {
@@ -122,7 +123,7 @@ fn date_in(year: u32, day: u32) -> Date
 
 // The date of a word that is not negative, or refusal 11.
 fn date_of_number(n: u32) -> DateAnswer
-    ensures { λ r. ⌜ r ≡ dateOfNumber n ⌝ }
+    ensures { λ r. ⌜ r ≡ dateOf (pos n) ⌝ }
 {
     let year = 1900 + n / 1000;
     let day = n % 1000;
@@ -139,18 +140,18 @@ fn date_of_number(n: u32) -> DateAnswer
 pub fn date_of(word: i32) -> DateAnswer
     ensures { λ r. ⌜ r ≡ dateOf word ⌝ }
 {
-    if word < 0 {
-        return DateAnswer::Refused(Refusal {
-            number: NO_DATE,
-            place: 0,
-        });
+    if 0 <= word {
+        return date_of_number(word as u32);
     }
-    date_of_number(word as u32)
+    DateAnswer::Refused(Refusal {
+        number: NO_DATE,
+        place: 0,
+    })
 }
 
 // The time of day of a word that is not negative, or refusal 11.
 fn time_of_number(n: u32) -> TimeAnswer
-    ensures { λ r. ⌜ r ≡ timeOfNumber n ⌝ }
+    ensures { λ r. ⌜ r ≡ timeOf (pos n) ⌝ }
 {
     let hours = n / 10000;
     let minutes = n / 100 % 100;
@@ -172,11 +173,11 @@ fn time_of_number(n: u32) -> TimeAnswer
 pub fn time_of(word: i32) -> TimeAnswer
     ensures { λ r. ⌜ r ≡ timeOf word ⌝ }
 {
-    if word < 0 {
-        return TimeAnswer::Refused(Refusal {
-            number: NO_DATE,
-            place: 0,
-        });
+    if 0 <= word {
+        return time_of_number(word as u32);
     }
-    time_of_number(word as u32)
+    TimeAnswer::Refused(Refusal {
+        number: NO_DATE,
+        place: 0,
+    })
 }

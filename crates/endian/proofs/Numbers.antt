@@ -33,6 +33,7 @@ value-append [] k = omega arith
 value-append (d ∷ l) k =
     omega (arith, value-append l k, ap (λ (x : ℕ). x * value k) (pow-succ' 256 (length l)) ∙ mul-assoc 256 (256 ^ length l) (value k))
 
+-- w digits stand for a number below 256 ^ w
 pub value-bound : (ds : List ℕ) → Bytes ds → value ds < 256 ^ length ds
 unfolding value
 value-bound [] h = lit< tt
@@ -45,11 +46,13 @@ value-fits ds r h l =
     lt-of-lt-of-le (value-bound (drop r ds) (λ i. rw (getD-drop r ds i 0) (h (r + i))))
     (pow-le-pow-right {n = 256} (lit< tt) few)
 
+-- a number has as many low digits as are asked for
 pub length-digits : (w n : ℕ) → length (digits w n) ≡ w
 unfolding digits
 length-digits zero n = refl
 length-digits (suc w) n = ap suc (length-digits w _)
 
+-- each is a byte
 pub digits-bytes : (w n : ℕ) → Bytes (digits w n)
 unfolding digits
 digits-bytes zero n i = lit< tt
@@ -81,6 +84,7 @@ digits-value (d ∷ ds) h =
 
 -- ---- the order
 
+-- the order keeps the length
 pub length-ordered : (o : Order) (l : List ℕ) → length (ordered o l) ≡ length l
 length-ordered Big l = length-reverse l
 length-ordered Little l = refl
@@ -94,10 +98,12 @@ pub digit-at : (o : Order) (l : List ℕ) (k : ℕ) → k < length l → getD (o
 digit-at Big l k h = getD-reverse l k 0 h
 digit-at Little l k h = refl
 
+-- which is inside the number
 pub position-inside : (o : Order) (w k : ℕ) → k < w → position o w k < w
 position-inside Big w k h = omega arith
 position-inside Little w k h = h
 
+-- the order keeps bytes
 pub ordered-bytes : (o : Order) (l : List ℕ) → Bytes l → Bytes (ordered o l)
 ordered-bytes o l h i = step (decLt i (length l))
   where
@@ -107,22 +113,26 @@ ordered-bytes o l h i = step (decLt i (length l))
 
 -- ---- numbers and their bytes
 
+-- a number is written with as many bytes as are asked for
 pub length-encode : (o : Order) (w n : ℕ) → length (encode o w n) ≡ w
 unfolding encode
 length-encode o w n = length-ordered o (digits w n) ∙ length-digits w n
 
+-- each is a byte
 pub encode-bytes : (o : Order) (w n : ℕ) → Bytes (encode o w n)
 unfolding encode
 encode-bytes o w n = ordered-bytes o (digits w n) (digits-bytes w n)
 
--- the bytes of a number stand for it, as far as they go; and a number's bytes are the only ones that stand for it
+-- the low bytes of a number stand for what is left of it below 256 ^ w
 pub decode-encode-low : (o : Order) (w n : ℕ) → decode o (encode o w n) ≡ n % 256 ^ w
 unfolding decode encode
 decode-encode-low o w n = ap value (ordered-twice o (digits w n)) ∙ value-digits w n
 
+-- the bytes of a number that fits stand for it
 pub decode-encode : (o : Order) (w n : ℕ) → n < 256 ^ w → decode o (encode o w n) ≡ n
 decode-encode o w n h = decode-encode-low o w n ∙ mod-eq-of-lt h
 
+-- no other bytes do
 pub encode-decode : (o : Order) (bytes : List ℕ) → Bytes bytes → encode o (length bytes) (decode o bytes) ≡ bytes
 unfolding decode encode
 encode-decode o bytes h =
@@ -130,6 +140,7 @@ encode-decode o bytes h =
     ∙ ap (ordered o) (digits-value (ordered o bytes) (ordered-bytes o bytes h))
     ∙ ordered-twice o bytes
 
+-- w bytes stand for a number below 256 ^ w
 pub decode-bound : (o : Order) (bytes : List ℕ) → Bytes bytes → decode o bytes < 256 ^ length bytes
 unfolding decode
 decode-bound o bytes h =

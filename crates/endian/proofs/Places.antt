@@ -9,8 +9,8 @@ use native.Mathlib.Nat.{add-zero, div-div-eq-div-mul, lt-of-lt-of-le, pow-le-pow
 use native.Mathlib.Numerals.{add-one}
 use native.Mathlib.Omega.{arith}
 use lib.Dec.{lit<}
-use lib.ListN.{length, getD, set, drop, length-take, List·getD-eq-default}
-use lib.Seq.{sets, length-sets}
+use lib.ListN.{length, getD, set, take, drop, length-take, List·getD-eq-default}
+use lib.Seq.{sets, length-sets, drop-drop}
 use Rattle.lists.specs.Lists.{Apart, part}
 use Rattle.lists.proofs.Parts.{length-part, getD-part, part-suc, part-part, part-left, part-right, part-same, part-agree}
 use Rattle.lists.proofs.Stores.{Where, below, inside, above, where-is, sets-below, sets-above, sets-inside, part-stored, part-apart, set-sets, sets-append, sets-comm, sets-last}
@@ -28,6 +28,7 @@ part-bytes at w f h i = step (decLt i w)
     step (yes lt) = rw (getD-part at w f i 0 lt) (h (at + i))
     step (no ge) = rw (List·getD-eq-default (part at w f) 0 {n = i} (omega (arith, length-take w (drop at f)))) (lit< tt)
 
+-- a number of w bytes is below 256 ^ w
 pub number-bound : (o : Order) (w : ℕ) (f : List ℕ) (at : ℕ) → Bytes f → numberAt o w f at < 256 ^ w
 unfolding numberAt
 number-bound o w f at h =
@@ -38,12 +39,13 @@ number-bound o w f at h =
 pub number-fits : (o : Order) (w : ℕ) (f : List ℕ) (at : ℕ) → Bytes f → w ≤ 4 → numberAt o w f at < 2 ^ 32
 number-fits o w f at h l = lt-of-lt-of-le (number-bound o w f at h) (pow-le-pow-right {n = 256} (lit< tt) l)
 
--- two files that agree on a number's bytes have the same number there, if they are equally long, or the number is inside both
+-- two files that agree on a number's bytes have the same number there, if they are equally long
 pub number-same : (o : Order) (w : ℕ) (f g : List ℕ) (at : ℕ) → length f ≡ length g
     → ((i : ℕ) → at ≤ i → i < at + w → getD f i 0 ≡ getD g i 0) → numberAt o w f at ≡ numberAt o w g at
 unfolding numberAt
 number-same o w f g at e h = ap (decode o) (part-same at w f g 0 e h)
 
+-- or the number is inside both
 pub number-agree : (o : Order) (w : ℕ) (f g : List ℕ) (at : ℕ) → at + w ≤ length f → at + w ≤ length g
     → ((i : ℕ) → at ≤ i → i < at + w → getD f i 0 ≡ getD g i 0) → numberAt o w f at ≡ numberAt o w g at
 unfolding numberAt
@@ -58,24 +60,33 @@ number-more o w f at h =
     ∙ decode-more o (part at w f) (getD f (at + w) 0)
     ∙ ap (λ (x : ℕ). withByte o x (decode o (part at w f)) (getD f (at + w) 0)) (length-part at w f (omega arith))
 
--- a number in a part of a file, and in either of two files that stand one behind the other
+-- a number in a part of a file
 pub number-part : (o : Order) (w : ℕ) (f : List ℕ) (a n at : ℕ) → at + w ≤ n → numberAt o w (part a n f) at ≡ numberAt o w f (a + at)
 unfolding numberAt
 number-part o w f a n at h = ap (decode o) (part-part a n at w f h)
 
+-- in the rest of a file
+pub number-drop : (o : Order) (w : ℕ) (f : List ℕ) (a at : ℕ) → numberAt o w (drop a f) at ≡ numberAt o w f (a + at)
+unfolding numberAt
+number-drop o w f a at = ap (λ (l : List ℕ). decode o (take w l)) (drop-drop at a f)
+
+-- in the first of two files that are joined
 pub number-left : (o : Order) (w : ℕ) (f g : List ℕ) (at : ℕ) → at + w ≤ length f → numberAt o w (f ++ g) at ≡ numberAt o w f at
 unfolding numberAt
 number-left o w f g at h = ap (decode o) (part-left at w f g h)
 
+-- in the second
 pub number-right : (o : Order) (w : ℕ) (f g : List ℕ) (at : ℕ) → numberAt o w (f ++ g) (length f + at) ≡ numberAt o w g at
 unfolding numberAt
 number-right o w f g at = ap (decode o) (part-right at w f g)
 
 -- ---- the digits of a number
 
+-- there are as many as the number has bytes
 pub length-digitsAt : (o : Order) (w : ℕ) (f : List ℕ) (at : ℕ) → at + w ≤ length f → length (digitsAt o w f at) ≡ w
 length-digitsAt o w f at h = length-ordered o (part at w f) ∙ length-part at w f h
 
+-- each is a byte
 pub digitsAt-bytes : (o : Order) (w : ℕ) (f : List ℕ) (at : ℕ) → Bytes f → Bytes (digitsAt o w f at)
 digitsAt-bytes o w f at h = ordered-bytes o (part at w f) (part-bytes at w f h)
 
@@ -100,6 +111,7 @@ written-part o w f at n h =
     subst (λ (x : ℕ). part at x (sets f at (encode o w n)) ≡ encode o w n) (length-encode o w n)
     (part-stored (encode o w n) f at 0 (rw (length-encode o w n) h))
 
+-- a number that fits is read back
 pub read-back : (o : Order) (w : ℕ) (f : List ℕ) (at n : ℕ) → at + w ≤ length f → n < 256 ^ w
     → numberAt o w (sets f at (encode o w n)) at ≡ n
 read-back o w f at n h l = number-held o w (sets f at (encode o w n)) at n (written-part o w f at n h) l
@@ -110,19 +122,22 @@ pub read-back-low : (o : Order) (w : ℕ) (f : List ℕ) (at n : ℕ) → at + w
 unfolding numberAt
 read-back-low o w f at n h = ap (decode o) (written-part o w f at n h) ∙ decode-encode-low o w n
 
--- a byte and a number elsewhere are as they were, bytes stay bytes, and so does the length
+-- a byte elsewhere is as it was
 pub byte-frame : (o : Order) (w : ℕ) (f : List ℕ) (at n i : ℕ) → (i < at) ⊎ (at + w ≤ i) → getD (sets f at (encode o w n)) i 0 ≡ getD f i 0
 byte-frame o w f at n i h =
     ⊎-elim (λ lt. sets-below (encode o w n) f at i 0 lt) (λ ge. sets-above (encode o w n) f at i 0 (rw (length-encode o w n) ge)) h
 
+-- a number elsewhere is as it was
 pub number-frame : (o p : Order) (w v : ℕ) (f : List ℕ) (at n b : ℕ) → Apart b v at w
     → numberAt p v (sets f at (encode o w n)) b ≡ numberAt p v f b
 unfolding numberAt
 number-frame o p w v f at n b h = ap (decode p) (part-apart (encode o w n) f at b v 0 (rw (length-encode o w n) h))
 
+-- the file is as long as it was
 pub write-length : (o : Order) (w : ℕ) (f : List ℕ) (at n : ℕ) → length (sets f at (encode o w n)) ≡ length f
 write-length o w f at n = length-sets f at (encode o w n)
 
+-- and its elements are bytes
 pub write-bytes : (o : Order) (w : ℕ) (f : List ℕ) (at n : ℕ) → at + w ≤ length f → Bytes f → Bytes (sets f at (encode o w n))
 write-bytes o w f at n fits h i = step (where-is i at w)
   where
@@ -131,11 +146,12 @@ write-bytes o w f at n fits h i = step (where-is i at w)
     step (inside k e lt) = rw (e, sets-inside (encode o w n) f at k 0 (rw (length-encode o w n) fits) (rw (length-encode o w n) lt)) (encode-bytes o w n k)
     step (above ge) = rw (byte-frame o w f at n i (inr ge)) (h i)
 
--- two writes elsewhere in either order, and two at one place, of which the last stands
+-- two writes apart from each other, in either order
 pub write-comm : (o p : Order) (w v : ℕ) (f : List ℕ) (at n b m : ℕ) → Apart at w b v
     → sets (sets f at (encode o w n)) b (encode p v m) ≡ sets (sets f b (encode p v m)) at (encode o w n)
 write-comm o p w v f at n b m h = sets-comm (encode o w n) (encode p v m) f at b (rw (length-encode o w n, length-encode p v m) h)
 
+-- of two writes at one place the last stands
 pub write-last : (o p : Order) (w : ℕ) (f : List ℕ) (at n m : ℕ)
     → sets (sets f at (encode o w n)) at (encode p w m) ≡ sets f at (encode p w m)
 write-last o p w f at n m = sets-last (encode o w n) (encode p w m) f at (length-encode o w n ∙ sym (length-encode p w m))

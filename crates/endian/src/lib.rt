@@ -37,12 +37,12 @@ fn digit(order: Order, width: usize, file: &[u8], at: usize, k: usize) -> u32
     file[i] as u32
 }
 
-// The unsigned number of `width` bytes, at most four, at the byte `at`, in Horner's form: from the most significant byte on, what
-// has been read is multiplied by 256 and the next byte added. The caller sees that the bytes are inside the file.
+// The unsigned number of `width` bytes, at most four, at the byte `at`. The caller must make sure that the bytes are inside the file.
 pub fn read_number(order: Order, width: usize, file: &[u8], at: usize) -> u32
     requires { ⌜ (width ≤ 4) × (at + width ≤ length (now file)) ⌝ }
     ensures { λ r. ⌜ r ≡ numberAt order width (now (file .entry)) at ⌝ }
 {
+    // Horner's form: from the most significant byte on, what has been read is multiplied by 256 and the next byte is added.
     let mut rest = width;
     let mut number: u32 = 0;
     while 0 < rest {
@@ -52,7 +52,7 @@ pub fn read_number(order: Order, width: usize, file: &[u8], at: usize) -> u32
     number
 }
 
-// Writes the low `width` bytes of n at the byte `at`. The caller sees that the bytes are inside the file. No other byte changes.
+// Writes the low `width` bytes of n at the byte `at`. The caller must make sure that the bytes are inside the file. No other byte changes.
 pub fn write_number(order: Order, width: usize, file: &mut [u8], at: usize, n: u32)
     requires { ⌜ at + width ≤ length (now file) ⌝ }
     ensures { λ _. ⌜ now (file .exit) ≡ sets (now (file .entry)) at (encode order width n) ⌝ }
@@ -89,7 +89,7 @@ fn unsigned(v: i32) -> u32
     }
 }
 
-// The signed word at the byte `at`. The caller sees that its four bytes are inside the file.
+// The signed word at the byte `at`. The caller must make sure that its four bytes are inside the file.
 pub fn read_signed(order: Order, file: &[u8], at: usize) -> i32
     requires { ⌜ at + 4 ≤ length (now file) ⌝ }
     ensures { λ r. ⌜ r ≡ signedAt order (now (file .entry)) at ⌝ }
@@ -97,7 +97,7 @@ pub fn read_signed(order: Order, file: &[u8], at: usize) -> i32
     signed(read_number(order, 4, file, at))
 }
 
-// Writes the signed word v at the byte `at`. The caller sees that its four bytes are inside the file. No other byte changes.
+// Writes the signed word v at the byte `at`. The caller must make sure that its four bytes are inside the file. No other byte changes.
 pub fn write_signed(order: Order, file: &mut [u8], at: usize, v: i32)
     requires { ⌜ at + 4 ≤ length (now file) ⌝ }
     ensures { λ _. ⌜ now (file .exit) ≡ sets (now (file .entry)) at (encodeSigned order v) ⌝ }

@@ -1,4 +1,4 @@
--- Laws of lists by their index, and of lines one behind the other.
+-- Laws of lists by their index, and of lines that are joined.
 -- Assumes nothing.
 use mathlib.Core.Path.{_≡_, refl, sym, ap, ap₂, _∙_}
 use mathlib.Core.Logic.{⊎-elim}

@@ -11,6 +11,7 @@ use Rattle.lists.specs.Choices.{pick}
 use Rattle.lists.specs.Lists.{linesOf, keep}
 
 module _ {A : Type 0} (t : A → Bool) where
+  -- what is kept of two lists that are joined
   pub keep-append : (l m : List A) → keep t (l ++ m) ≡ keep t l ++ keep t m
   unfolding keep
   keep-append [] m = refl
@@ -21,6 +22,7 @@ module _ {A : Type 0} (t : A → Bool) where
       step true e = ap (λ (k : List A). x ∷ k) e
       step false e = e
 
+  -- no more are kept than there are
   pub keep-length : (l : List A) → length (keep t l) ≤ length l
   unfolding keep
   keep-length [] = omega arith
@@ -52,6 +54,12 @@ module _ {A : Type 0} (t : A → Bool) where
       step : (b : Bool) → List·Memᴰ x (keep t l) → List·Memᴰ x (pick b (y ∷ keep t l) (keep t l))
       step true q = List·Memᴰ·tail q
       step false q = q
+
+  -- where no member passes, none is kept
+  pub keep-none : (l : List A) → ((x : A) → List·Memᴰ x l → t x ≡ false) → keep t l ≡ []
+  unfolding keep
+  keep-none [] h = refl
+  keep-none (x ∷ l) h = rw (h x (List·Memᴰ·head refl)) (keep-none l (λ y m. h y (List·Memᴰ·tail m)))
 
 -- two tests that agree on the members keep the same
 pub keep-same : {A : Type 0} (t u : A → Bool) (l : List A) → ((x : A) → List·Memᴰ x l → t x ≡ u x) → keep t l ≡ keep u l

@@ -32,7 +32,7 @@ module _ {A : Type 0} where
   part-part a n b m l h =
       ap (take m) (drop-take b n (drop a l)) ∙ take-take m (n - b) (drop b (drop a l)) (omega arith) ∙ ap (take m) (drop-drop b a l)
 
-  -- a part of the first of two lists that stand one behind the other, and of the second
+  -- a part of two lists that are joined: of the first, and of the second
   pub part-left : (a n : ℕ) (l k : List A) → a + n ≤ length l → part a n (l ++ k) ≡ part a n l
   part-left a n l k h =
       ap (take n) (drop-append-le a l k (omega arith)) ∙ take-append-le n (drop a l) k (omega (arith, length-drop a l))

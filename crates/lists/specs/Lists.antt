@@ -8,12 +8,12 @@ use Prim.Native.Nat.{ℕ, zero, suc, _+_, _≤_}
 use lib.ListN.{length, take, drop}
 use Rattle.lists.specs.Choices.{pick}
 
--- the n places from a on and the m places from b on have none in common
+-- of the n places from a on and the m places from b on, one part ends before the other begins
 abbrev pub Apart : ℕ → ℕ → ℕ → ℕ → Type 0
 Apart a n b m = (a + n ≤ b) ⊎ (b + m ≤ a)
 
 module _ {A : Type 0} where
-  -- the n elements of a list from index a on
+  -- the n elements of a list from index a on, or as many of them as there are
   abbrev pub part : ℕ → ℕ → List A → List A
   part a n l = take n (drop a l)
 
@@ -22,7 +22,7 @@ module _ {A : Type 0} where
   listOf f zero = []
   listOf f (suc n) = listOf f n ++ f n ∷ []
 
-  -- the lists g 0, g 1 and so on, n of them, one behind the other
+  -- the lists g 0, g 1 and so on, n of them, joined
   unfoldable pub linesOf : (ℕ → List A) → ℕ → List A
   linesOf g zero = []
   linesOf g (suc n) = linesOf g n ++ g n

@@ -6,18 +6,18 @@ use mathlib.Core.List.{List, [], _∷_, map, List·Memᴰ, List·Memᴰ·head, L
 use Prim.Native.Nat.{ℕ}
 use lib.ListN.{length}
 use Rattle.plan.specs.Stores.{System, Laws, All, alone, fileAfter}
-use Rattle.plan.specs.Calls.{CallSystem, CallLaws, fileAfterCalls, told, toldAlone, items, Demand3Calls, Request13Calls}
+use Rattle.plan.specs.Calls.{Told, CallSystem, CallLaws, fileAfterCalls, told, callOutcome, CallRun, done, call, toldAlone, items, Demand3Calls, Request13Calls}
 use Rattle.plan.proofs.Claims.{order-free, last-stands, answers-alone, opening-after, length-after-all, fileAfter-append}
 
 module _ {Store Answer Opened Value : Type 0} (S : System Store Answer Opened Value) (L : Laws S) {Call Whole : Type 0} (C : CallSystem S Call Whole) (K : CallLaws S C) where
   -- calls on a file g that opens as f does: each makes the stores that it makes of f, and is told what it is told alone on f
   record Made (f g : List ℕ) (l : List Call) : Type 0 where
     bytes : fileAfterCalls S C g l ≡ fileAfter S g (items S C f l)
-    toldSo : told S C g l ≡ map (toldAlone S C f) l
+    answered : told S C g l ≡ map (toldAlone S C f) l
 
   made : (f g : List ℕ) (l : List Call) → All (C .Fit) l → S .opening g ≡ S .opening f → length g ≡ length f → Made f g l
   unfolding fileAfter fileAfterCalls told items
-  made f g [] ok v n = record { bytes = refl; toldSo = refl }
+  made f g [] ok v n = record { bytes = refl; answered = refl }
   made f g (c ∷ l) ok v n =
       let okc = ok c (List·Memᴰ·head refl) in
       let fit = K .fit g c okc in
@@ -28,13 +28,13 @@ module _ {Store Answer Opened Value : Type 0} (S : System Store Answer Opened Va
             r .bytes
             ∙ ap (λ (x : List Store). fileAfter S (fileAfter S g x) (items S C f l)) e
             ∙ sym (fileAfter-append S g (C .makes f c) (items S C f l));
-        toldSo =
+        answered =
             ap₂ _∷_
             (λ i. record {
               whole = K .whole-by-opening g f c okc v n i;
               slots = (answers-alone S L f g (C .makes g c) fit v n ∙ ap (λ (x : List Store). map (alone S f) x) e) i;
             })
-            (r .toldSo);
+            (r .answered);
       }
 
   fit-items : (f : List ℕ) (l : List Call) → All (C .Fit) l → All (S .Fit) (items S C f l)
@@ -46,15 +46,17 @@ module _ {Store Answer Opened Value : Type 0} (S : System Store Answer Opened Va
       step rec (inl q) = K .fit f c (ok c (List·Memᴰ·head refl)) s q
       step rec (inr q) = rec q
 
+  -- demand 3 over calls
   pub calls-free : Demand3Calls S C
   calls-free f l ok apart =
       let d = order-free S L f (items S C f l) (fit-items f l ok) apart in
       record {
         stores = d;
         same = λ m okm o. made f f m okm refl refl .bytes ∙ d .same (items S C f m) o;
-        toldSo = λ m okm. made f f m okm refl refl .toldSo;
+        answered = λ m okm. made f f m okm refl refl .answered;
       }
 
+  -- request 13 over calls
   pub calls-last : Request13Calls S C
   calls-last f l m ok okm o e =
       let d = last-stands S L f (items S C f l) (items S C f m) (fit-items f l ok) o e in
@@ -64,6 +66,17 @@ module _ {Store Answer Opened Value : Type 0} (S : System Store Answer Opened Va
         stores = d;
         same = r .bytes ∙ d .same ∙ sym (r′ .bytes);
         made = r .bytes;
-        toldSo = r .toldSo;
-        toldSo′ = r′ .toldSo;
+        answered = r .answered;
+        answered′ = r′ .answered;
       }
+
+module _ {Store Answer Opened Value : Type 0} (S : System Store Answer Opened Value) {Call Whole : Type 0} (C : CallSystem S Call Whole) where
+  -- functions that keep their contracts, called one after another, are told and leave what the theory says
+  pub call-run-is : {f h : List ℕ} {l : List Call} {rs : List (Told Whole Answer)} → CallRun S C f l rs h
+      → (rs ≡ told S C f l) × (h ≡ fileAfterCalls S C f l)
+  unfolding fileAfterCalls told callOutcome
+  call-run-is (done e) = (refl, e)
+  call-run-is (call {g = g} {c = c} {l = l} e k) =
+      let (a, b) = call-run-is k in
+      let left : g ≡ fileAfter S _ (C .makes _ c) = ap (λ p. p .1) e in
+      (ap₂ _∷_ (ap (λ p. p .0) e) (a ∙ ap (λ (x : List ℕ). told S C x l) left), b ∙ ap (λ (x : List ℕ). fileAfterCalls S C x l) left)

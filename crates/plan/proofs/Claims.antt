@@ -3,20 +3,22 @@
 -- address stand in the same order. Demand 3 is the case where at most one store succeeds at each address.
 -- Assumes nothing.
 use mathlib.Core.Path.{_≡_, refl, sym, ap, ap₂, subst, _∙_}
-use mathlib.Core.Logic.{_⊎_, inl, inr, ite}
-use mathlib.Core.List.{List, [], _∷_, _++_, map, List·Memᴰ, List·Memᴰ·head, List·Memᴰ·tail, Memᴰ·append-right, Permᴰ·refl, Permᴰ·symm, Permᴰ·filter}
+use mathlib.Core.Bool.{Bool, true, false}
+use mathlib.Core.Logic.{_⊎_, inl, inr}
+use mathlib.Core.List.{List, [], _∷_, _++_, map, List·Memᴰ, List·Memᴰ·head, List·Memᴰ·tail, Memᴰ·append-right, Permᴰ·refl, Permᴰ·symm}
 use Prim.Native.Nat.{ℕ, _+_, _≤_, _<_}
 use native.Mathlib.Omega.{arith}
 use lib.ListN.{length, getD}
 use lib.Seq.{ext-getD}
-use Rattle.lists.specs.Lists.{part}
+use Rattle.lists.specs.Choices.{pick}
+use Rattle.lists.specs.Lists.{part, keep}
 use Rattle.lists.proofs.Parts.{length-part, getD-part}
 use Rattle.lists.proofs.Stores.{sets-inside}
 use Rattle.plan.specs.Plans.{Plan, write, refuse, answer, after, outcome, SucceedsAt, succeedsAt, Covers, Holds}
-use Rattle.plan.specs.Stores.{Order, All, System, Laws, alone, fileAfter, answers, storesAt, Distinct, Run, done, call}
+use Rattle.plan.specs.Stores.{OrderOf, All, System, Laws, alone, fileAfter, answers, storesAt, Distinct, Run, done, call}
 use Rattle.plan.specs.Claims.{Demand3, LastStands, Request13}
-use Rattle.plan.proofs.Orders.{order-mem, order-single, only-member}
-use Rattle.plan.proofs.Plans.{Inside, length-after, address}
+use Rattle.plan.proofs.Orders.{order-mem, order-keep, order-single, only-member}
+use Rattle.plan.proofs.Plans.{Inside, length-after, address, succeeds-exactly}
 use Rattle.plan.proofs.Runs.{carried, length-carried, carried-append, carried-other, here, carried-here, mem-here, here-mem, none-here, find}
 
 module _ {Store Answer Opened Value : Type 0} (S : System Store Answer Opened Value) (L : Laws S) where
@@ -64,18 +66,21 @@ module _ {Store Answer Opened Value : Type 0} (S : System Store Answer Opened Va
         opening = r .opening;
       }
 
+  -- each store is answered as it would be alone on a file that opens alike
   pub answers-alone : (f g : List ℕ) (l : List Store) → All (S .Fit) l → S .opening g ≡ S .opening f → length g ≡ length f
       → answers S g l ≡ map (alone S f) l
   answers-alone f g l ok v n = planned f g l ok v n .told
 
+  -- opening answers as before
   pub opening-after : (f : List ℕ) (l : List Store) → All (S .Fit) l → S .opening (fileAfter S f l) ≡ S .opening f
   opening-after f l ok = planned f f l ok refl refl .opening
 
+  -- the file is as long as before
   pub length-after-all : (f : List ℕ) (l : List Store) → All (S .Fit) l → length (fileAfter S f l) ≡ length f
   length-after-all f l ok = ap length (planned f f l ok refl refl .bytes) ∙ length-carried (S .plan f) f l
 
   -- stores at one address in the same order leave the same bytes
-  same-bytes : (f : List ℕ) (l m : List Store) → All (S .Fit) l → All (S .Fit) m → Order l m
+  same-bytes : (f : List ℕ) (l m : List Store) → All (S .Fit) l → All (S .Fit) m → OrderOf l m
       → ((a : ℕ) → storesAt S f a l ≡ storesAt S f a m) → carried (S .plan f) f l ≡ carried (S .plan f) f m
   unfolding storesAt
   same-bytes f l m ok ok′ o e =
@@ -157,16 +162,17 @@ module _ {Store Answer Opened Value : Type 0} (S : System Store Answer Opened Va
 
   -- no two stores succeed at one address: at most one does at each
   one-each : (f : List ℕ) (l : List Store) → Distinct S f l → (a : ℕ) → length (storesAt S f a l) ≤ 1
-  unfolding storesAt
+  unfolding storesAt keep
   one-each f [] d a = omega arith
-  one-each f (s ∷ l) (apart, d) a = step (succeedsAt a (S .plan f s)) (one-each f l d a)
+  one-each f (s ∷ l) (apart, d) a = step (succeedsAt a (S .plan f s)) refl (one-each f l d a)
     where
-      step : (x : Dec (SucceedsAt a (S .plan f s))) → length (here (S .plan f) a l) ≤ 1
-          → length (ite {C = List Store} x (s ∷ here (S .plan f) a l) (here (S .plan f) a l)) ≤ 1
-      step (yes w) h =
+      step : (u : Bool) → succeedsAt a (S .plan f s) ≡ u → length (here (S .plan f) a l) ≤ 1
+          → length (pick u (s ∷ here (S .plan f) a l) (here (S .plan f) a l)) ≤ 1
+      step true u h =
+          let w = succeeds-exactly a (S .plan f s) .0 u in
           let e : here (S .plan f) a l ≡ [] = none-here (S .plan f) a l (λ t m v. apart t m a w v) in
           rw e (omega arith)
-      step (no w) h = h
+      step false u h = h
 
   -- demand 3
   pub order-free : Demand3 S
@@ -174,8 +180,8 @@ module _ {Store Answer Opened Value : Type 0} (S : System Store Answer Opened Va
   order-free f l ok apart =
       let one : (a : ℕ) → length (here (S .plan f) a l) ≤ 1 = one-each f l apart in
       let w = last-stands f l l ok (Permᴰ·refl l) (λ a. refl) in
-      let to : (o : List Store) → Order l o → LastStands S f l o =
-      λ o p. last-stands f l o ok p (λ a. order-single (Permᴰ·filter {p = λ s. SucceedsAt a (S .plan f s)} (λ s. succeedsAt a (S .plan f s)) p) (one a)) in
+      let to : (o : List Store) → OrderOf l o → LastStands S f l o =
+      λ o p. last-stands f l o ok p (λ a. order-single (order-keep (λ s. succeedsAt a (S .plan f s)) p) (one a)) in
       record {
         bytes = fileAfter S f l;
         same = λ o p. sym (to o p .same);
@@ -197,12 +203,13 @@ module _ {Store Answer Opened Value : Type 0} (S : System Store Answer Opened Va
       let left : g ≡ after _ (S .plan _ s) = ap (λ p. p .1) e in
       (ap₂ _∷_ told (a ∙ ap (λ (x : List ℕ). answers S x l) left), b ∙ ap (λ (x : List ℕ). fileAfter S x l) left)
 
-  -- stores behind stores
+  -- the file after two lists of stores that are joined
   pub fileAfter-append : (f : List ℕ) (l m : List Store) → fileAfter S f (l ++ m) ≡ fileAfter S (fileAfter S f l) m
   unfolding fileAfter
   fileAfter-append f [] m = refl
   fileAfter-append f (s ∷ l) m = fileAfter-append (after f (S .plan f s)) l m
 
+  -- what they are answered
   pub answers-append : (f : List ℕ) (l m : List Store) → answers S f (l ++ m) ≡ answers S f l ++ answers S (fileAfter S f l) m
   unfolding fileAfter answers
   answers-append f [] m = refl

@@ -10,11 +10,12 @@ use native.Mathlib.Omega.{arith}
 use lib.ListN.{length}
 use Rattle.lists.specs.Choices.{pick}
 use Rattle.plan.specs.Plans.{Plan, write, refuse}
-use Rattle.plan.specs.Stores
-use Rattle.plan.specs.Stores.{Laws}
+use Rattle.plan.specs.Stores.{Succeeds, Laws}
 use Rattle.plan.specs.Claims.{Demand3, Request13}
-use Rattle.plan.specs.Formats.{Format, plan, system, Writes, Owed}
+use Rattle.plan.specs.Formats.{Format, plan, system, Writes, FormatLaws}
+use Rattle.plan.specs.Calls.{CallSystem, CallLaws, Demand3Calls, Request13Calls}
 use Rattle.plan.proofs.Claims.{order-free, last-stands}
+use Rattle.plan.proofs.Calls.{calls-free, calls-last}
 
 -- two places of one lattice that share a byte are one place
 pub on-lattice : (i base w j k : ℕ) → base + j * w ≤ i → i < base + j * w + w → base + k * w ≤ i → i < base + k * w + w → j ≡ k
@@ -34,7 +35,7 @@ pick-write : {A : Type 0} (t : Bool) (p : Plan A) (r q : A) (a : ℕ) (b : List 
 pick-write true p r q a b e = (refl, e)
 pick-write false p r q a b e = let z : _≡_ {A = ℕ} 0 1 = cc in let y : ⊥ = omega arith in absurd y
 
-module _ {Store Key Opened Answer Value : Type 0} (F : Format Store Key Opened Answer Value) (W : Owed F) where
+module _ {Store Key Opened Answer Value : Type 0} (F : Format Store Key Opened Answer Value) (W : FormatLaws F) where
   -- a store that writes has a fresh layout
   pub write-fresh : (f : List ℕ) (s : Store) {r : Answer} {a : ℕ} {b : List ℕ} → F .Typed s → plan F f s ≡ write r a b → Writes F f s a b
   unfolding plan
@@ -43,15 +44,16 @@ module _ {Store Key Opened Answer Value : Type 0} (F : Format Store Key Opened A
       record { typed = typed; fresh = W .exact s (F .open-as f (F .key s) (F .grid s)) .0 t; told = r; planned = q }
 
   module _ (k : Key) where
-    of : {f : List ℕ} {s : Store} {a : ℕ} {b : List ℕ} → Stores.Writes (system F k) f s a b → Writes F f s a b
+    -- what the laws ask of a store, and what the format gives
+    of : {f : List ℕ} {s : Store} {a : ℕ} {b : List ℕ} → Succeeds (system F k) f s a b → Writes F f s a b
     of {f} {s} w = write-fresh f s (w .fit .1) (w .planned)
 
     -- the places of one key stand on one lattice
-    on : {f : List ℕ} {s : Store} {a : ℕ} {b : List ℕ} → Stores.Writes (system F k) f s a b
+    on : {f : List ℕ} {s : Store} {a : ℕ} {b : List ℕ} → Succeeds (system F k) f s a b
         → (j : ℕ) × (a ≡ W .base f k + j * W .width f k) × (length b ≡ W .width f k)
     on w = rw (← w .fit .0) (W .lattice (of w))
 
-    meets : {f : List ℕ} {s t : Store} {a c : ℕ} {b d : List ℕ} → Stores.Writes (system F k) f s a b → Stores.Writes (system F k) f t c d
+    meets : {f : List ℕ} {s t : Store} {a c : ℕ} {b d : List ℕ} → Succeeds (system F k) f s a b → Succeeds (system F k) f t c d
         → (i : ℕ) → a ≤ i → i < a + length b → c ≤ i → i < c + length d → a ≡ c
     meets {f = f} w v i h₁ h₂ h₃ h₄ =
         let (x, xa, xb) = on w in
@@ -59,6 +61,7 @@ module _ {Store Key Opened Answer Value : Type 0} (F : Format Store Key Opened A
         let j = on-lattice i (W .base f k) (W .width f k) x y (omega arith) (omega arith) (omega arith) (omega arith) in
         cc (ap (λ (z : ℕ). W .base f k + z * W .width f k) j)
 
+    -- the stores of one key meet the laws
     pub laws : Laws (system F k)
     unfolding plan
     laws =
@@ -70,8 +73,22 @@ module _ {Store Key Opened Answer Value : Type 0} (F : Format Store Key Opened A
           reads = λ w h. W .reads (of w) h;
         }
 
+    -- Demand 3. Of any file and any list of stores of one kind and byte order, no two of which succeed at the same place: all orders leave
+    -- the same bytes (`bytes`, `same`), and in every order each store gets the answer it would get alone on the file as it came
+    -- (`answered`); each stored place reads back its number (`stored`), every other byte is the old one (`others`, `size`), and opening
+    -- answers as before (`opening`).
     pub demand3 : Demand3 (system F k)
     demand3 = order-free (system F k) laws
 
+    -- Request 13. Of any file and two lists that hold the same stores, those to the same place in the same order: both leave the same bytes
+    -- (`same`), each stored place with its last number (`stored`), and each store gets the same answer (`answered`, `answered′`).
     pub request13 : Request13 (system F k)
     request13 = last-stands (system F k) laws
+
+    -- both over calls that make several stores or none
+    module _ {Call Whole : Type 0} (C : CallSystem (system F k) Call Whole) (K : CallLaws (system F k) C) where
+      pub demand3-calls : Demand3Calls (system F k) C
+      demand3-calls = calls-free (system F k) laws C K
+
+      pub request13-calls : Request13Calls (system F k) C
+      request13-calls = calls-last (system F k) laws C K

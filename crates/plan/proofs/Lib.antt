@@ -2,5 +2,6 @@ pub mod Orders
 pub mod Plans
 pub mod Runs
 pub mod Claims
-pub mod Formats
 pub mod Calls
+pub mod Formats
+mod Worked

@@ -1,13 +1,16 @@
 -- What one plan leaves at one byte.
 -- Assumes nothing.
 use mathlib.Core.Path.{_≡_, refl, sym, _∙_}
+use mathlib.Core.Bool.{true, false, false≢true}
+use mathlib.Core.Logic.{_↔_}
 use mathlib.Core.List.{List}
 use Prim.Native.Nat.{ℕ, _+_, _≤_, _<_}
 use native.Mathlib.Omega.{arith}
 use lib.ListN.{length, getD}
 use lib.Seq.{sets, length-sets}
+use borrow.Author.Tests.{eqb-true, eq-eqb, ne-eqb}
 use Rattle.lists.proofs.Stores.{Where, below, inside, above, where-is, sets-below, sets-above, sets-inside}
-use Rattle.plan.specs.Plans.{Plan, write, refuse, after, SucceedsAt, Covers}
+use Rattle.plan.specs.Plans.{Plan, write, refuse, after, SucceedsAt, succeedsAt, Covers}
 
 module _ {Answer : Type 0} where
   -- the place of a plan is inside a file of n bytes
@@ -15,6 +18,7 @@ module _ {Answer : Type 0} where
   Inside n (write r a b) = a + length b ≤ n
   Inside n (refuse r) = Unit {0}
 
+  -- a store leaves the length
   pub length-after : (f : List ℕ) (p : Plan Answer) → length (after f p) ≡ length f
   length-after f (write r a b) = length-sets f _ b
   length-after f (refuse r) = refl
@@ -45,6 +49,7 @@ module _ {Answer : Type 0} where
   address i (write r a b) c = (a, refl)
   address i (refuse r) c = absurd c
 
+  -- it can be told whether a store covers a byte
   pub covers : (i : ℕ) (p : Plan Answer) → Dec (Covers i p)
   covers i (refuse r) = no (λ h. h)
   covers i (write r a b) = step (where-is i a (length b))
@@ -53,3 +58,12 @@ module _ {Answer : Type 0} where
       step (below q) = no (λ h. omega arith)
       step (inside k q lt) = yes (omega arith, omega arith)
       step (above q) = no (λ h. omega arith)
+
+  -- the test for an address is exact
+  pub succeeds-exactly : (c : ℕ) (p : Plan Answer) → (succeedsAt c p ≡ true) ↔ SucceedsAt c p
+  succeeds-exactly c (write r a b) = (eqb-true a c, eq-eqb a c)
+  succeeds-exactly c (refuse r) = (λ e. false≢true e, λ h. absurd h)
+
+  pub not-at : (c : ℕ) (p : Plan Answer) → ¬ SucceedsAt c p → succeedsAt c p ≡ false
+  not-at c (write r a b) h = ne-eqb a c h
+  not-at c (refuse r) h = refl

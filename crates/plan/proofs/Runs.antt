@@ -1,24 +1,31 @@
 -- A run of plans that are fixed beforehand, one after another on one file, and what it leaves at each byte.
 -- Assumes nothing.
-use mathlib.Core.Path.{_≡_, refl, _∙_}
-use mathlib.Core.Logic.{_⊎_, inl, inr, ite}
-use mathlib.Core.List.{List, [], _∷_, _++_, filter, List·Memᴰ, List·Memᴰ·head, List·Memᴰ·tail, List·Memᴰ·not-nil, List·Memᴰ·cases-cons}
+use mathlib.Core.Path.{_≡_, refl, sym, _∙_}
+use mathlib.Core.Bool.{Bool, true, false, false≢true}
+use mathlib.Core.Logic.{_⊎_, inl, inr}
+use mathlib.Core.List.{List, [], _∷_, _++_, List·Memᴰ, List·Memᴰ·head, List·Memᴰ·tail, List·Memᴰ·not-nil, List·Memᴰ·cases-cons}
 use Prim.Native.Nat.{ℕ}
 use lib.ListN.{length, getD}
+use Rattle.lists.specs.Choices.{pick}
+use Rattle.lists.specs.Lists.{keep}
+use Rattle.lists.proofs.Kept.{kept-is, is-kept, keep-none}
 use Rattle.plan.specs.Plans.{Plan, after, SucceedsAt, succeedsAt, Covers}
 use Rattle.plan.specs.Stores.{All}
-use Rattle.plan.proofs.Plans.{Inside, length-after, after-other, after-agree, covers}
+use Rattle.plan.proofs.Plans.{Inside, length-after, after-other, after-agree, covers, succeeds-exactly, not-at}
 
 module _ {X Answer : Type 0} (P : X → Plan Answer) where
+  -- the file after them
   unfoldable pub carried : List ℕ → List X → List ℕ
   carried g [] = g
   carried g (s ∷ l) = carried (after g (P s)) l
 
+  -- it is as long
   pub length-carried : (g : List ℕ) (l : List X) → length (carried g l) ≡ length g
   unfolding carried
   length-carried g [] = refl
   length-carried g (s ∷ l) = length-carried (after g (P s)) l ∙ length-after g (P s)
 
+  -- a run in two pieces
   pub carried-append : (g : List ℕ) (l m : List X) → carried g (l ++ m) ≡ carried (carried g l) m
   unfolding carried
   carried-append g [] m = refl
@@ -33,16 +40,18 @@ module _ {X Answer : Type 0} (P : X → Plan Answer) where
 
   -- the members that succeed at an address
   abbrev pub here : ℕ → List X → List X
-  here a l = filter {p = λ s. SucceedsAt a (P s)} (λ s. succeedsAt a (P s)) l
+  here a l = keep (λ s. succeedsAt a (P s)) l
 
   -- at a byte that only stores at address a cover, these alone count
   pub carried-here : (n i a : ℕ) (g k : List ℕ) (l : List X) → All (λ s. Covers i (P s) → SucceedsAt a (P s)) l
-      → All (λ s. Inside n (P s)) l → length g ≡ n → length k ≡ n → getD g i 0 ≡ getD k i 0
-      → getD (carried g l) i 0 ≡ getD (carried k (here a l)) i 0
-  unfolding carried
+      → All (λ s. Inside n (P s)) l
+      → length g ≡ n → length k ≡ n → getD g i 0 ≡ getD k i 0 → getD (carried g l) i 0 ≡ getD (carried k (here a l)) i 0
+  unfolding carried keep
   carried-here n i a g k [] h fit lg lk e = e
   carried-here n i a g k (s ∷ l) h fit lg lk e =
-      step (succeedsAt a (P s)) (carried-here n i a (after g (P s)) (after k (P s)) l h′ fit′ q q′) (carried-here n i a (after g (P s)) k l h′ fit′ q lk)
+      step (succeedsAt a (P s)) refl
+      (carried-here n i a (after g (P s)) (after k (P s)) l h′ fit′ q (length-after k (P s) ∙ lk))
+      (carried-here n i a (after g (P s)) k l h′ fit′ q lk)
     where
       h′ : All (λ t. Covers i (P t) → SucceedsAt a (P t)) l
       h′ t m = h t (List·Memᴰ·tail m)
@@ -53,52 +62,29 @@ module _ {X Answer : Type 0} (P : X → Plan Answer) where
       q : length (after g (P s)) ≡ n
       q = length-after g (P s) ∙ lg
 
-      q′ : length (after k (P s)) ≡ n
-      q′ = length-after k (P s) ∙ lk
+      elsewhere : succeedsAt a (P s) ≡ false → ¬ Covers i (P s)
+      elsewhere u c = false≢true (sym u ∙ succeeds-exactly a (P s) .1 (h s (List·Memᴰ·head refl) c))
 
-      step : (d : Dec (SucceedsAt a (P s)))
+      step : (u : Bool) → succeedsAt a (P s) ≡ u
           → (getD (after g (P s)) i 0 ≡ getD (after k (P s)) i 0 → getD (carried (after g (P s)) l) i 0 ≡ getD (carried (after k (P s)) (here a l)) i 0)
           → (getD (after g (P s)) i 0 ≡ getD k i 0 → getD (carried (after g (P s)) l) i 0 ≡ getD (carried k (here a l)) i 0)
-          → getD (carried (after g (P s)) l) i 0 ≡ getD (carried k (ite {C = List X} d (s ∷ here a l) (here a l))) i 0
-      step (yes w) both one = both (after-agree n g k (P s) i lg lk (fit s (List·Memᴰ·head refl)) e)
-      step (no w) both one = one (after-other g (P s) i (λ c. w (h s (List·Memᴰ·head refl) c)) ∙ e)
+          → getD (carried (after g (P s)) l) i 0 ≡ getD (carried k (pick u (s ∷ here a l) (here a l))) i 0
+      step true u both one = both (after-agree n g k (P s) i lg lk (fit s (List·Memᴰ·head refl)) e)
+      step false u both one = one (after-other g (P s) i (elsewhere u) ∙ e)
 
+  -- a member that succeeds at the address is one of them
   pub mem-here : (a : ℕ) {s : X} {l : List X} → List·Memᴰ s l → SucceedsAt a (P s) → List·Memᴰ s (here a l)
-  mem-here a {s} (List·Memᴰ·head {x = x} {xs = l} e) w = step (succeedsAt a (P x))
-    where
-      step : (d : Dec (SucceedsAt a (P x))) → List·Memᴰ s (ite {C = List X} d (x ∷ here a l) (here a l))
-      step (yes v) = List·Memᴰ·head e
-      step (no v) = absurd (v (rw e at w))
-  mem-here a {s} (List·Memᴰ·tail {x = x} {xs = l} m) w = step (succeedsAt a (P x)) (mem-here a m w)
-    where
-      step : (d : Dec (SucceedsAt a (P x))) → List·Memᴰ s (here a l) → List·Memᴰ s (ite {C = List X} d (x ∷ here a l) (here a l))
-      step (yes v) k = List·Memᴰ·tail k
-      step (no v) k = k
+  mem-here a {s} m w = is-kept (λ s. succeedsAt a (P s)) m (succeeds-exactly a (P s) .1 w)
 
+  -- and each of them is such a member
   pub here-mem : (a : ℕ) (s : X) (l : List X) → List·Memᴰ s (here a l) → List·Memᴰ s l × SucceedsAt a (P s)
-  here-mem a s [] m = absurd (List·Memᴰ·not-nil m)
-  here-mem a s (x ∷ l) m = step (succeedsAt a (P x)) (λ k. here-mem a s l k) m
-    where
-      more : List·Memᴰ s l × SucceedsAt a (P s) → List·Memᴰ s (x ∷ l) × SucceedsAt a (P s)
-      more r = (List·Memᴰ·tail (r .0), r .1)
+  here-mem a s l m =
+      let r = kept-is (λ s. succeedsAt a (P s)) s l m in
+      (r .0, succeeds-exactly a (P s) .0 (r .1))
 
-      first : SucceedsAt a (P x) → (List·Memᴰ s (here a l) → List·Memᴰ s l × SucceedsAt a (P s)) → (s ≡ x) ⊎ List·Memᴰ s (here a l)
-          → List·Memᴰ s (x ∷ l) × SucceedsAt a (P s)
-      first v rec (inl e) = (List·Memᴰ·head e, rw e v)
-      first v rec (inr k) = more (rec k)
-
-      step : (d : Dec (SucceedsAt a (P x))) → (List·Memᴰ s (here a l) → List·Memᴰ s l × SucceedsAt a (P s))
-          → List·Memᴰ s (ite {C = List X} d (x ∷ here a l) (here a l)) → List·Memᴰ s (x ∷ l) × SucceedsAt a (P s)
-      step (yes v) rec k = first v rec (List·Memᴰ·cases-cons k)
-      step (no v) rec k = more (rec k)
-
+  -- where no member succeeds at the address there is none
   pub none-here : (a : ℕ) (l : List X) → All (λ t. ¬ SucceedsAt a (P t)) l → here a l ≡ []
-  none-here a [] h = refl
-  none-here a (s ∷ l) h = step (succeedsAt a (P s)) (none-here a l (λ t m. h t (List·Memᴰ·tail m)))
-    where
-      step : (d : Dec (SucceedsAt a (P s))) → here a l ≡ [] → ite {C = List X} d (s ∷ here a l) (here a l) ≡ []
-      step (yes w) e = absurd (h s (List·Memᴰ·head refl) w)
-      step (no w) e = e
+  none-here a l h = keep-none (λ s. succeedsAt a (P s)) l (λ s m. not-at a (P s) (h s m))
 
   -- a member that covers a byte, or none does
   pub find : (i : ℕ) (l : List X) → ((s : X) × List·Memᴰ s l × Covers i (P s)) ⊎ All (λ s. ¬ Covers i (P s)) l

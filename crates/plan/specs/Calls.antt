@@ -6,7 +6,7 @@ use mathlib.Core.Path.{_≡_}
 use mathlib.Core.List.{List, [], _∷_, _++_, map}
 use Prim.Native.Nat.{ℕ}
 use lib.ListN.{length}
-use Rattle.plan.specs.Stores.{System, Order, All, alone, fileAfter, answers, storesAt, Distinct}
+use Rattle.plan.specs.Stores.{System, OrderOf, All, alone, fileAfter, answers, storesAt, Distinct}
 use Rattle.plan.specs.Claims.{OrderFree, LastStands}
 
 -- what a call is told: for the call as a whole, and in its answer slots
@@ -44,6 +44,16 @@ module _ {Store Answer Opened Value : Type 0} (S : System Store Answer Opened Va
     told f [] = []
     told f (c ∷ l) = record { whole = C .whole f c; slots = answers S f (C .makes f c) } ∷ told (fileAfter S f (C .makes f c)) l
 
+    -- both at once: what the contract of a function that makes such a call says of what it is told and of the lent file
+    unfoldable pub callOutcome : List ℕ → Call → Told Whole Answer × List ℕ
+    callOutcome f c = (record { whole = C .whole f c; slots = answers S f (C .makes f c) }, fileAfter S f (C .makes f c))
+
+    -- functions that make calls, called one after another from the file f to the file h, by what their contracts say
+    pub data CallRun : List ℕ → List Call → List (Told Whole Answer) → List ℕ → Type 0 where
+      done : {f h : List ℕ} → h ≡ f → CallRun f [] [] h
+      call : {f g h : List ℕ} {c : Call} {l : List Call} {r : Told Whole Answer} {rs : List (Told Whole Answer)}
+          → (r, g) ≡ callOutcome f c → CallRun g l rs h → CallRun f (c ∷ l) (r ∷ rs) h
+
     -- what a call is told alone on a file, each item answered as its single store alone
     abbrev pub toldAlone : List ℕ → Call → Told Whole Answer
     toldAlone f c = record { whole = C .whole f c; slots = map (alone S f) (C .makes f c) }
@@ -57,8 +67,8 @@ module _ {Store Answer Opened Value : Type 0} (S : System Store Answer Opened Va
     -- order, leaves those bytes; and each of its calls is told what it would be told alone on the file as it came.
     pub record CallsFree (f : List ℕ) (l : List Call) : Type 0 where
       pub stores : OrderFree S f (items f l)
-      pub same : (m : List Call) → All (C .Fit) m → Order (items f l) (items f m) → fileAfterCalls f m ≡ stores .bytes
-      pub toldSo : (m : List Call) → All (C .Fit) m → told f m ≡ map (toldAlone f) m
+      pub same : (m : List Call) → All (C .Fit) m → OrderOf (items f l) (items f m) → fileAfterCalls f m ≡ stores .bytes
+      pub answered : (m : List Call) → All (C .Fit) m → told f m ≡ map (toldAlone f) m
 
     -- demand 3 over calls: of any file, and any list of calls no two of whose items succeed at the same place
     abbrev pub Demand3Calls : Type 0
@@ -70,10 +80,10 @@ module _ {Store Answer Opened Value : Type 0} (S : System Store Answer Opened Va
       pub stores : LastStands S f (items f l) (items f m)
       pub same : fileAfterCalls f l ≡ fileAfterCalls f m
       pub made : fileAfterCalls f l ≡ fileAfter S f (items f l)
-      pub toldSo : told f l ≡ map (toldAlone f) l
-      pub toldSo′ : told f m ≡ map (toldAlone f) m
+      pub answered : told f l ≡ map (toldAlone f) l
+      pub answered′ : told f m ≡ map (toldAlone f) m
 
     -- request 13 over calls: the items of the two lists are the same, each as often, and those at the same place stand in the same order
     abbrev pub Request13Calls : Type 0
-    Request13Calls = (f : List ℕ) (l m : List Call) → All (C .Fit) l → All (C .Fit) m → Order (items f l) (items f m)
+    Request13Calls = (f : List ℕ) (l m : List Call) → All (C .Fit) l → All (C .Fit) m → OrderOf (items f l) (items f m)
         → ((a : ℕ) → storesAt S f a (items f l) ≡ storesAt S f a (items f m)) → CallsLast f l m

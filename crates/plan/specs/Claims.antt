@@ -1,27 +1,27 @@
--- Demand 3, that the order of stores does not matter, and request 13 of document 02, the full rule where stores hit one place twice.
--- Each is one claim about whole lists of stores.
+-- Demand 3, that the order of stores does not matter, and request 13 of document 02, the rule for stores at the same place. Each is one
+-- claim about whole lists of stores. Words in quotation marks are those of the demand and of the request.
 -- Assumes nothing.
 use mathlib.Core.Path.{_≡_}
 use mathlib.Core.List.{List, [], _∷_, _++_, map, List·Memᴰ}
 use Prim.Native.Nat.{ℕ}
 use lib.ListN.{length, getD}
 use Rattle.plan.specs.Plans.{SucceedsAt, Covers}
-use Rattle.plan.specs.Stores.{System, Order, All, alone, fileAfter, answers, storesAt, Distinct}
+use Rattle.plan.specs.Stores.{System, OrderOf, All, alone, fileAfter, answers, storesAt, Distinct}
 
 module _ {Store Answer Opened Value : Type 0} (S : System Store Answer Opened Value) where
   -- Demand 3 of one file f and one list l of stores. Each field is a sentence of the demand.
   pub record OrderFree (f : List ℕ) (l : List Store) : Type 0 where
     -- "all orders leave the same bytes": these
     pub bytes : List ℕ
-    pub same : (o : List Store) → Order l o → fileAfter S f o ≡ bytes
+    pub same : (o : List Store) → OrderOf l o → fileAfter S f o ≡ bytes
     -- "in every order each store gets the answer it would get alone on the file as it came"
-    pub answered : (o : List Store) → Order l o → answers S f o ≡ map (alone S f) o
+    pub answered : (o : List Store) → OrderOf l o → answers S f o ≡ map (alone S f) o
     -- "each stored place reads back its number"
     pub stored : (s : Store) → List·Memᴰ s l → (a : ℕ) → SucceedsAt a (S .plan f s) → S .read bytes s ≡ S .number s
     -- "every other byte is the old one", and there are as many
     pub others : (i : ℕ) → All (λ s. ¬ Covers i (S .plan f s)) l → getD bytes i 0 ≡ getD f i 0
     pub size : length bytes ≡ length f
-    -- "opening answers as before"
+    -- "opening answers as before": opening by the one kind and byte order, for every grid number
     pub opening : S .opening bytes ≡ S .opening f
 
   -- Demand 3: "any file, accepted or not, one kind, one byte order, any list of stores (refused ones too, layouts stale or not), no two
@@ -45,5 +45,5 @@ module _ {Store Answer Opened Value : Type 0} (S : System Store Answer Opened Va
 
   -- Request 13: the two lists "hold the same stores, each as often", and "stores to the same place stand in the same order in both".
   abbrev pub Request13 : Type 0
-  Request13 = (f : List ℕ) (l m : List Store) → All (S .Fit) l → Order l m → ((a : ℕ) → storesAt S f a l ≡ storesAt S f a m)
+  Request13 = (f : List ℕ) (l m : List Store) → All (S .Fit) l → OrderOf l m → ((a : ℕ) → storesAt S f a l ≡ storesAt S f a m)
       → LastStands f l m

@@ -60,8 +60,8 @@ module _ {Store Key Opened Answer Value : Type 0} (F : Format Store Key Opened A
     pub told : Answer
     pub planned : F .within s ≡ write told a b
 
-  -- what a format owes
-  pub record Owed : Type 0 where
+  -- What a format owes, of its layouts and of stores that succeed.
+  pub record FormatLaws : Type 0 where
     -- whether an answer is the store's layout is told exactly
     pub exact : (s : Store) (x : Opened) → (F .same s x ≡ true) ↔ (x ≡ F .layout s)
     -- a place is inside the file

@@ -2,11 +2,12 @@
 -- writes nothing. Either way the caller is told an answer.
 -- Assumes nothing.
 use mathlib.Core.Path.{_≡_}
+use mathlib.Core.Bool.{Bool, false}
 use mathlib.Core.List.{List}
 use Prim.Native.Nat.{ℕ, _+_, _≤_, _<_}
+use lib.Dec.{eqb}
 use lib.ListN.{length}
 use lib.Seq.{sets}
-use native.Mathlib.Decide.{ℕ-discrete}
 use Rattle.lists.specs.Lists.{part}
 
 -- write: the answer, the address and the bytes; refuse: the answer
@@ -36,9 +37,9 @@ module _ {Answer : Type 0} where
   SucceedsAt c (refuse r) = ⊥
 
   -- whether it does
-  abbrev pub succeedsAt : (c : ℕ) (p : Plan Answer) → Dec (SucceedsAt c p)
-  succeedsAt c (write r a b) = ℕ-discrete a c
-  succeedsAt c (refuse r) = no (λ h. h)
+  abbrev pub succeedsAt : ℕ → Plan Answer → Bool
+  succeedsAt c (write r a b) = eqb a c
+  succeedsAt c (refuse r) = false
 
   -- the store succeeds, and byte i is in its place
   abbrev pub Covers : ℕ → Plan Answer → Type 0

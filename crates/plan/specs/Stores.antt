@@ -1,15 +1,16 @@
 -- Stores one after another.
 -- Assumes nothing.
 use mathlib.Core.Path.{_≡_}
-use mathlib.Core.List.{List, [], _∷_, filter, List·Memᴰ, List·Permᴰ}
+use mathlib.Core.List.{List, [], _∷_, List·Memᴰ, List·Permᴰ}
 use Prim.Native.Nat.{ℕ, _+_, _≤_, _<_}
 use lib.ListN.{length}
 use lib.Seq.{sets}
+use Rattle.lists.specs.Lists.{keep}
 use Rattle.plan.specs.Plans.{Plan, write, answer, after, outcome, SucceedsAt, succeedsAt, Holds}
 
--- an order of a list: the same members, each as often (a permutation)
-abbrev pub Order : {X : Type 0} → List X → List X → Type 0
-Order l o = List·Permᴰ l o
+-- the second list is an order of the first: it has the same members, each as often (a permutation)
+abbrev pub OrderOf : {X : Type 0} → List X → List X → Type 0
+OrderOf l o = List·Permᴰ l o
 
 -- every member of a list
 abbrev pub All : {X : Type 0} → (X → Type 0) → List X → Type 0
@@ -45,7 +46,7 @@ module _ {Store Answer Opened Value : Type 0} (S : System Store Answer Opened Va
 
   -- the stores of a list that succeed at an address, alone on a file
   unfoldable pub storesAt : List ℕ → ℕ → List Store → List Store
-  storesAt f a l = filter {p = λ s. SucceedsAt a (S .plan f s)} (λ s. succeedsAt a (S .plan f s)) l
+  storesAt f a l = keep (λ s. succeedsAt a (S .plan f s)) l
 
   -- no two stores of a list that succeed, alone on a file, have the same address
   abbrev pub Distinct : List ℕ → List Store → Type 0
@@ -60,7 +61,7 @@ module _ {Store Answer Opened Value : Type 0} (S : System Store Answer Opened Va
         → Run g l rs h → Run f (s ∷ l) (r ∷ rs) h
 
   -- a store that is meant succeeds, and writes b at address a
-  pub record Writes (f : List ℕ) (s : Store) (a : ℕ) (b : List ℕ) : Type 0 where
+  pub record Succeeds (f : List ℕ) (s : Store) (a : ℕ) (b : List ℕ) : Type 0 where
     pub fit : S .Fit s
     pub told : Answer
     pub planned : S .plan f s ≡ write told a b
@@ -70,11 +71,12 @@ module _ {Store Answer Opened Value : Type 0} (S : System Store Answer Opened Va
     -- a store's plan depends on the file through what opening answers and the file's length alone
     pub by-opening : (f g : List ℕ) (s : Store) → S .Fit s → S .opening f ≡ S .opening g → length f ≡ length g → S .plan f s ≡ S .plan g s
     -- a place is inside the file
-    pub inside : {f : List ℕ} {s : Store} {a : ℕ} {b : List ℕ} → Writes f s a b → a + length b ≤ length f
+    pub inside : {f : List ℕ} {s : Store} {a : ℕ} {b : List ℕ} → Succeeds f s a b → a + length b ≤ length f
     -- a store leaves what opening answers
-    pub opens : {f : List ℕ} {s : Store} {a : ℕ} {b : List ℕ} → Writes f s a b → S .opening (sets f a b) ≡ S .opening f
+    pub opens : {f : List ℕ} {s : Store} {a : ℕ} {b : List ℕ} → Succeeds f s a b → S .opening (sets f a b) ≡ S .opening f
     -- two places that share a byte have the same address
-    pub meet : {f : List ℕ} {s t : Store} {a c : ℕ} {b d : List ℕ} → Writes f s a b → Writes f t c d → (i : ℕ) → a ≤ i → i < a + length b
+    pub meet : {f : List ℕ} {s t : Store} {a c : ℕ} {b d : List ℕ} → Succeeds f s a b → Succeeds f t c d → (i : ℕ) → a ≤ i
+        → i < a + length b
         → c ≤ i → i < c + length d → a ≡ c
     -- a place that holds a store's bytes reads back as its number
-    pub reads : {f : List ℕ} {s : Store} {a : ℕ} {b : List ℕ} → Writes f s a b → Holds f a b → S .read f s ≡ S .number s
+    pub reads : {f : List ℕ} {s : Store} {a : ℕ} {b : List ℕ} → Succeeds f s a b → Holds f a b → S .read f s ≡ S .number s

@@ -11,12 +11,15 @@ use Rattle.lists.specs.Choices.{both, either}
 use Rattle.lists.proofs.Choices.{both-true, true-both, either-true, true-either}
 use Rattle.refusal.specs.Tests.{Exactly, within, sameNumbers}
 
+-- at most
 pub le-exactly : (a b : ℕ) → Exactly (leb a b) (a ≤ b)
 le-exactly a b = record { sound = leb-true a b; complete = le-leb a b }
 
+-- below
 pub lt-exactly : (a b : ℕ) → Exactly (ltb a b) (a < b)
 lt-exactly a b = record { sound = ltb-true a b; complete = lt-ltb a b }
 
+-- equal
 pub eq-exactly : (a b : ℕ) → Exactly (eqb a b) (a ≡ b)
 eq-exactly a b = record { sound = eqb-true a b; complete = eq-eqb a b }
 
@@ -25,6 +28,7 @@ pub not-exactly : {t : Bool} {P : Type 0} → Exactly t P → Exactly (not t) (�
 not-exactly {t = true} x = record { sound = λ e. absurd (false≢true e); complete = λ h. absurd (h (x .sound refl)) }
 not-exactly {t = false} x = record { sound = λ e p. false≢true (x .complete p); complete = λ h. refl }
 
+-- two tests
 pub both-exactly : {a b : Bool} {P Q : Type 0} → Exactly a P → Exactly b Q → Exactly (both a b) (P × Q)
 both-exactly {a} {b} x y =
     record {
@@ -32,6 +36,7 @@ both-exactly {a} {b} x y =
       complete = λ h. true-both a b (x .complete (h .0)) (y .complete (h .1));
     }
 
+-- one of two tests
 pub either-exactly : {a b : Bool} {P Q : Type 0} → Exactly a P → Exactly b Q → Exactly (either a b) (P ⊎ Q)
 either-exactly {a} {b} x y =
     record {
@@ -39,10 +44,12 @@ either-exactly {a} {b} x y =
       complete = λ s. true-either a b (⊎-elim (λ p. inl (x .complete p)) (λ q. inr (y .complete q)) s);
     }
 
+-- within bounds
 pub within-exactly : (low high n : ℕ) → Exactly (within low high n) ((low ≤ n) × (n ≤ high))
 unfolding within
 within-exactly low high n = both-exactly (le-exactly low n) (le-exactly n high)
 
+-- the same lists of numbers
 pub numbers-exactly : (xs ys : List ℕ) → Exactly (sameNumbers xs ys) (xs ≡ ys)
 unfolding sameNumbers
 numbers-exactly [] [] = record { sound = λ e. refl; complete = λ e. refl }

@@ -2,12 +2,12 @@
 -- Assumes nothing.
 use mathlib.Core.Path.{_≡_, refl, sym, ap, _∙_}
 use mathlib.Core.Bool.{Bool, true, false}
-use mathlib.Core.Logic.{_↔_}
+use mathlib.Core.Logic.{_↔_, _⊎_, inl, inr}
 use mathlib.Core.List.{List, [], _∷_, _++_}
 use Prim.Native.Nat.{ℕ}
 use native.Mathlib.Omega.{arith}
 use Rattle.lists.specs.Choices.{pick}
-use Rattle.refusal.specs.Rules.{Rule, refusalOf, judge, first, firstFault, answered, Tells, chained, Hold, Give, FirstFailing}
+use Rattle.refusal.specs.Rules.{Rule, refusalOf, judge, first, firstFault, answered, AnswerType, chained, Hold, Give, FirstFailing}
 use Rattle.refusal.specs.declared.Refusal.{Refusal}
 use Rattle.refusal.specs.declared.Verdict.{Verdict}
 use Rattle.refusal.specs.declared.Verdict.the-variants.{Pass, Fault}
@@ -18,29 +18,33 @@ use Rattle.refusal.specs.declared.Verdict.the-variants.{Pass, Fault}
 pub fault-pass {ℓ} : {A : Type ℓ} (r : Refusal) → Fault r ≡ Pass → A
 fault-pass r e = let z : _≡_ {A = ℕ} 0 1 = cc in let y : ⊥ = omega arith in absurd y
 
+-- the first fault of three verdicts, grouped either way
 pub first-assoc : (a b c : Verdict) → first (first a b) c ≡ first a (first b c)
 unfolding first
 first-assoc Pass b c = refl
 first-assoc (Fault r) b c = refl
 
+-- a pass changes nothing
 pub first-pass : (a : Verdict) → first a Pass ≡ a
 unfolding first
 first-pass Pass = refl
 first-pass (Fault r) = refl
 
--- the first of two verdicts passes where both do
+-- where the first fault of two verdicts is a pass, both pass
 pub both-pass : (a b : Verdict) → first a b ≡ Pass → (a ≡ Pass) × (b ≡ Pass)
 unfolding first
 both-pass Pass b e = (refl, e)
 both-pass (Fault r) b e = fault-pass r e
 
+-- and only there
 pub pass-both : (a b : Verdict) → a ≡ Pass → b ≡ Pass → first a b ≡ Pass
 unfolding first
 pass-both a b e f = rw (e, f)
 
 -- ---- one rule
 
-judge-holds : (r : Rule) → r .holds ≡ true → judge r ≡ Pass
+-- a rule that holds passes
+pub judge-holds : (r : Rule) → r .holds ≡ true → judge r ≡ Pass
 unfolding judge
 judge-holds r e = rw e
 
@@ -48,6 +52,7 @@ judge-fails : (r : Rule) → r .holds ≡ false → judge r ≡ Fault (refusalOf
 unfolding judge
 judge-fails r e = rw e
 
+-- and the other way round
 pub judge-pass : (r : Rule) → judge r ≡ Pass → r .holds ≡ true
 unfolding judge
 judge-pass r = step (r .holds)
@@ -58,7 +63,7 @@ judge-pass r = step (r .holds)
 
 -- ---- a table
 
--- a table passes exactly where every rule of it holds
+-- where a table passes, every rule of it holds
 pub pass-hold : (rs : List Rule) → firstFault rs ≡ Pass → Hold rs
 unfolding firstFault
 pass-hold [] e = tt
@@ -66,19 +71,20 @@ pass-hold (r ∷ rs) e =
     let p : (judge r ≡ Pass) × (firstFault rs ≡ Pass) = both-pass (judge r) (firstFault rs) e in
     (judge-pass r (p .0), pass-hold rs (p .1))
 
+-- and the other way round
 pub hold-pass : (rs : List Rule) → Hold rs → firstFault rs ≡ Pass
 unfolding firstFault
 hold-pass [] h = refl
 hold-pass (r ∷ rs) h = pass-both (judge r) (firstFault rs) (judge-holds r (h .0)) (hold-pass rs (h .1))
 
--- tables one behind the other
+-- tables that are joined
 pub firstFault-append : (rs ss : List Rule) → firstFault (rs ++ ss) ≡ first (firstFault rs) (firstFault ss)
 unfolding firstFault first
 firstFault-append [] ss = refl
 firstFault-append (r ∷ rs) ss =
     ap (first (judge r)) (firstFault-append rs ss) ∙ sym (first-assoc (judge r) (firstFault rs) (firstFault ss))
 
--- a table's fault is the refusal of its first rule that fails, and the other way round
+-- a table's fault is the refusal of its first rule that fails
 pub fault-first : (rs : List Rule) (f : Refusal) → firstFault rs ≡ Fault f → FirstFailing rs f
 unfolding firstFault first
 fault-first [] f e = fault-pass f (sym e)
@@ -100,6 +106,7 @@ fault-first (r ∷ rs) f e = step (r .holds) refl (fault-first rs f)
         let q : Fault (refusalOf r) ≡ Fault f = rw (judge-fails r h) at e in
         record { before = []; failing = r; after = rs; split = refl; hold = tt; fails = h; gives = cc }
 
+-- and the other way round
 pub first-fault : (rs : List Rule) (f : Refusal) → FirstFailing rs f → firstFault rs ≡ Fault f
 unfolding firstFault first
 first-fault rs f x =
@@ -120,15 +127,17 @@ same-fault (q ∷ rs) f r g e = step (q .holds) refl (same-fault rs f r (g .1))
         let y : refusalOf q ≡ r = cc in
         sym y ∙ g .0
 
--- the rules of tables one behind the other
+-- the rules of tables that are joined: of the first
 pub hold-left : (rs ss : List Rule) → Hold (rs ++ ss) → Hold rs
 hold-left [] ss h = tt
 hold-left (r ∷ rs) ss h = (h .0, hold-left rs ss (h .1))
 
+-- of the second
 pub hold-right : (rs ss : List Rule) → Hold (rs ++ ss) → Hold ss
 hold-right [] ss h = h
 hold-right (r ∷ rs) ss h = hold-right rs ss (h .1)
 
+-- of both
 pub hold-both : (rs ss : List Rule) → Hold rs → Hold ss → Hold (rs ++ ss)
 hold-both [] ss h k = k
 hold-both (r ∷ rs) ss h k = (h .0, hold-both rs ss (h .1) k)
@@ -139,17 +148,18 @@ unfolding chained firstFault
 chained-first v [] = sym (first-pass v)
 chained-first v (r ∷ rs) = chained-first (first v (judge r)) rs ∙ first-assoc v (judge r) (firstFault rs)
 
--- what a chain of calls of `check` gives is what the table says: after a verdict, and from the start
+-- what a chain of calls of `check` gives is what the table says, after a verdict
 pub by-chain : (v : Verdict) (rs : List Rule) {r : Verdict} → r ≡ chained v rs → r ≡ first v (firstFault rs)
 by-chain v rs e = e ∙ chained-first v rs
 
+-- from the start
 pub by-table : (rs : List Rule) {r : Verdict} → r ≡ chained Pass rs → r ≡ firstFault rs
 unfolding first
 by-table rs e = e ∙ chained-first Pass rs
 
 -- ---- the answer of a table
 
-module _ {Value Answer : Type 0} {value : Value → Answer} {refused : Refusal → Answer} (T : Tells value refused) (rs : List Rule) (v : Value) where
+module _ {Value Answer : Type 0} {value : Value → Answer} {refused : Refusal → Answer} (T : AnswerType value refused) (rs : List Rule) (v : Value) where
   -- a call answers a value exactly where every rule holds, and then the one that the definition gives
   pub value-exactly : (w : Value) → (answered value refused (firstFault rs) v ≡ value w) ↔ (Hold rs × (w ≡ v))
   value-exactly w = (λ e. step (firstFault rs) refl e, λ h. rw (hold-pass rs (h .0)) (ap value (sym (h .1))))
@@ -166,17 +176,23 @@ module _ {Value Answer : Type 0} {value : Value → Answer} {refused : Refusal �
       step Pass p e = absurd (T .apart e)
       step (Fault r) p e = fault-first rs f (p ∙ ap Fault (T .refusals e))
 
+  -- where every rule gives the same refusal, that is the one
   pub refused-same : (f r : Refusal) → Give f rs → answered value refused (firstFault rs) v ≡ refused r → r ≡ f
   refused-same f r g e = same-fault rs f r g (first-fault rs r (refusal-exactly r .0 e))
 
 -- ---- answers that say exactly whether a value is the one for what was asked
 
-module _ {Value Answer Asked : Type 0} {value : Value → Answer} {refused : Refusal → Answer} (T : Tells value refused)
+module _ {Value Answer Asked : Type 0} {value : Value → Answer} {refused : Refusal → Answer} (T : AnswerType value refused)
     (f : Asked → Answer) (Is : Asked → Value → Type 0) (exactly : (x : Asked) (v : Value) → (f x ≡ value v) ↔ Is x v) where
   -- there is at most one
   pub exactly-one : (x : Asked) (v w : Value) → Is x v → Is x w → v ≡ w
   exactly-one x v w p q = T .values (sym (exactly x v .1 p) ∙ exactly x w .1 q)
 
-  -- where it is refused there is none
-  pub exactly-none : (x : Asked) (r : Refusal) → f x ≡ refused r → (v : Value) → ¬ Is x v
-  exactly-none x r e v p = T .apart (sym (exactly x v .1 p) ∙ e)
+  -- where only one refusal is given, it is given exactly where there is none
+  pub exactly-none : (r : Refusal) → ((x : Asked) (s : Refusal) → f x ≡ refused s → s ≡ r)
+      → (x : Asked) → (f x ≡ refused r) ↔ ((v : Value) → ¬ Is x v)
+  exactly-none r only x = (λ e v p. T .apart (sym (exactly x v .1 p) ∙ e), λ none. step none (T .cases (f x)))
+    where
+      step : ((v : Value) → ¬ Is x v) → ((v : Value) × (f x ≡ value v)) ⊎ ((s : Refusal) × (f x ≡ refused s)) → f x ≡ refused r
+      step none (inl (v, e)) = absurd (none v (exactly x v .0 e))
+      step none (inr (s, e)) = e ∙ ap refused (only x s e)

@@ -3,6 +3,7 @@
 -- Assumes nothing.
 use mathlib.Core.Path.{_≡_}
 use mathlib.Core.Bool.{Bool, true, false}
+use mathlib.Core.Logic.{_⊎_}
 use mathlib.Core.List.{List, [], _∷_, _++_}
 use Prim.Native.Nat.{ℕ}
 use Rattle.lists.specs.Choices.{pick}
@@ -44,8 +45,9 @@ abbrev pub answered : {Value Answer : Type 0} → (Value → Answer) → (Refusa
 answered value refused Pass v = value v
 answered value refused (Fault r) v = refused r
 
--- an answer type tells its values apart, its refusals apart, and a value from a refusal
-pub record Tells {Value Answer : Type 0} (value : Value → Answer) (refused : Refusal → Answer) : Type 0 where
+-- an answer type: each answer is a value or a refusal and not both, and is told by it
+pub record AnswerType {Value Answer : Type 0} (value : Value → Answer) (refused : Refusal → Answer) : Type 0 where
+  pub cases : (x : Answer) → ((v : Value) × (x ≡ value v)) ⊎ ((r : Refusal) × (x ≡ refused r))
   pub values : {v w : Value} → value v ≡ value w → v ≡ w
   pub refusals : {r s : Refusal} → refused r ≡ refused s → r ≡ s
   pub apart : {v : Value} {r : Refusal} → value v ≡ refused r → ⊥

@@ -16,11 +16,11 @@ pub const SHORT_FILE: u32 = 1;
 // AREA word 2 is 4 in neither byte order. Place 2.
 pub const NO_BYTE_ORDER: u32 = 2;
 // A count is outside its bounds. The place is its word.
-pub const COUNT: u32 = 3;
+pub const COUNT_OUT_OF_BOUNDS: u32 = 3;
 // A word is unequal to its rule, and the place is the word; or a band map is unusable, and the place is 19.
-pub const RULE: u32 = 4;
+pub const RULE_BROKEN: u32 = 4;
 // Something is outside the file, or over another part. The place is its word.
-pub const OUTSIDE: u32 = 5;
+pub const MISPLACED: u32 = 5;
 // A grid slot is empty, a block is absent, or a prefix region has length 0. Place 0.
 pub const ABSENT: u32 = 6;
 // There is no such line, element, slot, band, grid, point, field or key, or the layout is of another kind. Place 0.

@@ -1,19 +1,24 @@
 -- `calendar::date_of_number` meets its contract: the chain of checks is the table of rules, and its verdict picks the answer.
 -- Assumes nothing.
 use mathlib.Core.Path.{_≡_, sym, ap, _∙_}
+use Prim.Native.Nat.{ℕ}
+use lib.Dec.{leb, leb·zero}
+use lib.IntN.{pos}
 use borrow.Author.Needs.{needs}
-use Rattle.refusal.specs.Rules.{firstFault, chained}
-use Rattle.refusal.proofs.Tables.{by-table, pass-hold}
-use Rattle.calendar.specs.Dates.{dateRules, dateOfNumber}
+use Rattle.refusal.specs.Rules.{rule, first, firstFault, chained}
+use Rattle.refusal.proofs.Tables.{judge-holds, by-table, pass-hold}
+use Rattle.calendar.specs.Dates.{dateRules, dateOf}
 use Rattle.calendar.proofs.Dates.{hold-accepted}
 use Rattle.calendar.specs.declared.DateAnswer.the-variants.{On}
 use Rattle.calendar.proofs.date_of_number.Statement.{statement}
 use Rattle.calendar.proofs.date_of_number.Tie as tie
 
--- what the two checks say
-verdict : (c : tie.After-check2) → c .check2 .result ≡ firstFault (dateRules (c .before .before .before .before .before .args .n))
-unfolding dateRules chained
-verdict c = by-table _ (cc)
+-- what the two checks say, and the first rule, which holds of every number
+verdict : (c : tie.After-check2) → c .check2 .result ≡ firstFault (dateRules (pos (c .before .before .before .before .before .args .n)))
+unfolding dateRules chained first
+verdict c =
+    let n : ℕ = c .before .before .before .before .before .args .n in
+    by-table _ (cc (judge-holds (rule (leb 0 n) 11 0) (leb·zero n)))
 
 add-year : tie.Need-add-year
 add-year c = search needs
@@ -43,11 +48,11 @@ enum-known-refusal : tie.Need-enum-known-refusal
 enum-known-refusal c = search needs
 
 returns : tie.Need-returns
-unfolding dateOfNumber
+unfolding dateOf
 returns c = rw (sym (verdict (c .before .before .before)) ∙ c .before .enum-told .given .1) (ap On (c .date-in .ensures))
 
 returns-2 : tie.Need-returns-2
-unfolding dateOfNumber
+unfolding dateOf
 returns-2 c = rw (sym (verdict (c .before .before .before)) ∙ c .before .refusal .given .1)
 
 pub date-of-number-spec : {M : Type 1} → statement M

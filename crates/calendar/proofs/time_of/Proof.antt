@@ -1,27 +1,30 @@
--- `calendar::time_of` meets its contract: a negative word is refused, and any other is the number that it is cast to.
+-- `calendar::time_of` meets its contract: a word that is not negative is the number that it is cast to, and any other breaks the first rule.
 -- Assumes nothing.
-use mathlib.Core.Path.{refl, _∙_}
+use mathlib.Core.Path.{sym, ap, _∙_}
 use borrow.Author.Needs.{needs}
-use Rattle.calendar.specs.Times.{timeOf, timeOfNumber}
-use Rattle.calendar.proofs.Signs.{negative, not-negative, cast-fits}
+use Rattle.refusal.specs.Rules.{judge, first, firstFault}
+use Rattle.endian.proofs.Signs.{NotNegative, not-negative, negative}
+use mir.Syntax.{w32}
+use mir.Val.{toZ, ofZ}
+use Rattle.calendar.specs.Times.{timeRules, timeOf}
 use Rattle.calendar.proofs.time_of.Statement.{statement}
 use Rattle.calendar.proofs.time_of.Tie as tie
 
-returns : tie.Need-returns
-unfolding timeOf
-returns c = negative timeOf _ (λ n. refl) (c .before .args .word) (c .before .fits .word) (c .if1 .taken)
+low : (c : tie.Then1) → NotNegative (c .before .args .word) (toZ w32 (ofZ w32 (c .before .args .word)))
+low c = not-negative (c .before .args .word) (c .before .fits .word) (c .if1 .taken)
 
 cast-time-of-number : tie.Need-cast-time-of-number
-cast-time-of-number c = cast-fits (c .before .args .word) (c .before .fits .word) (c .if1 .left)
+cast-time-of-number c = (low c .sign, low c .fits)
 
 time-of-number-requires : tie.Need-time-of-number-requires
 time-of-number-requires c κs = search needs
 
+returns : tie.Need-returns
+returns c = c .time-of-number .ensures ∙ sym (ap timeOf (low (c .before) .number))
+
 returns-2 : tie.Need-returns-2
-unfolding timeOf
-returns-2 c =
-    let s = c .before .before in
-    c .time-of-number .ensures ∙ not-negative timeOf timeOfNumber (λ n. refl) (s .args .word) (s .fits .word) (c .before .if1 .left)
+unfolding timeOf timeRules firstFault first judge
+returns-2 c = sym (ap timeOf (negative (c .before .args .word) (c .before .fits .word) (c .if1 .left) .number))
 
 pub time-of-spec : {M : Type 1} → statement M
-time-of-spec = tie.close (tie.spec returns cast-time-of-number time-of-number-requires returns-2)
+time-of-spec = tie.close (tie.spec cast-time-of-number time-of-number-requires returns returns-2)
