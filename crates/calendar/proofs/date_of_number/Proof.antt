@@ -18,7 +18,16 @@ verdict : (c : tie.After-check2) → c .check2 .result ≡ firstFault (dateRules
 unfolding dateRules chained first
 verdict c =
     let n : ℕ = c .before .before .before .before .before .args .n in
-    by-table _ (cc (judge-holds (rule (leb 0 n) 11 0) (leb·zero n)))
+    by-table
+    _
+    (rw (
+      c .check2 .ensures,
+      c .before .within .ensures,
+      c .before .before .check .ensures,
+      c .before .before .before .year-length .ensures,
+      c .before .before .before .before .is-leap .ensures,
+      judge-holds (rule (leb 0 n) 11 0) (leb·zero n),
+    ))
 
 add-year : tie.Need-add-year
 add-year c = search needs

@@ -31,7 +31,7 @@ verdict : (c : tie.After-check3) → c .check3 .result ≡ firstFault (timeRules
 unfolding timeRules chained first
 verdict c =
     let n : ℕ = c .before .before .before .args .n in
-    by-table _ (cc (judge-holds (rule (leb 0 n) 11 0) (leb·zero n)))
+    by-table _ (rw (c .check3 .ensures, c .before .check2 .ensures, c .before .before .check .ensures, judge-holds (rule (leb 0 n) 11 0) (leb·zero n)))
 
 returns : tie.Need-returns
 unfolding timeOf
