@@ -103,13 +103,18 @@ pub position-inside : (o : Order) (w k : ℕ) → k < w → position o w k < w
 position-inside Big w k h = omega arith
 position-inside Little w k h = h
 
+-- a list is one of bytes where each of its elements is a byte
+pub bytes-of : (l : List ℕ) → ((i : ℕ) → i < length l → getD l i 0 < 256) → Bytes l
+bytes-of l h i = step (decLt i (length l))
+  where
+    step : Dec (i < length l) → getD l i 0 < 256
+    step (yes lt) = h i lt
+    step (no ge) = rw (List·getD-eq-default l 0 {n = i} (omega arith)) (lit< tt)
+
 -- the order keeps bytes
 pub ordered-bytes : (o : Order) (l : List ℕ) → Bytes l → Bytes (ordered o l)
-ordered-bytes o l h i = step (decLt i (length l))
-  where
-    step : Dec (i < length l) → getD (ordered o l) i 0 < 256
-    step (yes lt) = rw (digit-at o l i lt) (h (position o (length l) i))
-    step (no ge) = rw (List·getD-eq-default (ordered o l) 0 {n = i} (omega (arith, length-ordered o l))) (lit< tt)
+ordered-bytes o l h =
+    bytes-of (ordered o l) (λ i lt. rw (digit-at o l i (omega (arith, length-ordered o l))) (h (position o (length l) i)))
 
 -- ---- numbers and their bytes
 

@@ -11,22 +11,19 @@ use native.Mathlib.Omega.{arith}
 use lib.Dec.{lit<}
 use lib.ListN.{length, getD, set, take, drop, length-take, List·getD-eq-default}
 use lib.Seq.{sets, length-sets, drop-drop}
-use Rattle.lists.specs.Lists.{Apart, part}
+use Rattle.lists.specs.Lists.{Outside, Apart, part}
 use Rattle.lists.proofs.Parts.{length-part, getD-part, part-suc, part-part, part-left, part-right, part-same, part-agree}
-use Rattle.lists.proofs.Stores.{Where, below, inside, above, where-is, sets-below, sets-above, sets-inside, part-stored, part-apart, set-sets, sets-append, sets-comm, sets-last}
+use Rattle.lists.proofs.Stores.{Where, inside, outside, where-is, sets-outside, sets-inside, part-stored, part-apart, set-sets, sets-append, sets-comm, sets-last}
 use Rattle.endian.specs.Numbers.{digits, position, decode, encode, digitsAt, withByte, numberAt, Bytes}
 use Rattle.endian.specs.declared.Order.{Order}
 use Rattle.endian.specs.declared.Order.the-variants.{Big, Little}
-use Rattle.endian.proofs.Numbers.{length-ordered, ordered-bytes, digit-at, position-inside, length-digits, digits-more, length-encode, encode-bytes, decode-encode, decode-encode-low, decode-bound, decode-more}
+use Rattle.endian.proofs.Numbers.{length-ordered, bytes-of, ordered-bytes, digit-at, position-inside, length-digits, digits-more, length-encode, encode-bytes, decode-encode, decode-encode-low, decode-bound, decode-more}
 
 -- ---- a number that is read
 
 part-bytes : (at w : ℕ) (f : List ℕ) → Bytes f → Bytes (part at w f)
-part-bytes at w f h i = step (decLt i w)
-  where
-    step : Dec (i < w) → getD (part at w f) i 0 < 256
-    step (yes lt) = rw (getD-part at w f i 0 lt) (h (at + i))
-    step (no ge) = rw (List·getD-eq-default (part at w f) 0 {n = i} (omega (arith, length-take w (drop at f)))) (lit< tt)
+part-bytes at w f h =
+    bytes-of (part at w f) (λ i lt. rw (getD-part at w f i 0 (omega (arith, length-take w (drop at f)))) (h (at + i)))
 
 -- a number of w bytes is below 256 ^ w
 pub number-bound : (o : Order) (w : ℕ) (f : List ℕ) (at : ℕ) → Bytes f → numberAt o w f at < 256 ^ w
@@ -123,9 +120,8 @@ unfolding numberAt
 read-back-low o w f at n h = ap (decode o) (written-part o w f at n h) ∙ decode-encode-low o w n
 
 -- a byte elsewhere is as it was
-pub byte-frame : (o : Order) (w : ℕ) (f : List ℕ) (at n i : ℕ) → (i < at) ⊎ (at + w ≤ i) → getD (sets f at (encode o w n)) i 0 ≡ getD f i 0
-byte-frame o w f at n i h =
-    ⊎-elim (λ lt. sets-below (encode o w n) f at i 0 lt) (λ ge. sets-above (encode o w n) f at i 0 (rw (length-encode o w n) ge)) h
+pub byte-frame : (o : Order) (w : ℕ) (f : List ℕ) (at n i : ℕ) → Outside i at w → getD (sets f at (encode o w n)) i 0 ≡ getD f i 0
+byte-frame o w f at n i h = sets-outside (encode o w n) f at i 0 (rw (length-encode o w n) h)
 
 -- a number elsewhere is as it was
 pub number-frame : (o p : Order) (w v : ℕ) (f : List ℕ) (at n b : ℕ) → Apart b v at w
@@ -142,9 +138,8 @@ pub write-bytes : (o : Order) (w : ℕ) (f : List ℕ) (at n : ℕ) → at + w �
 write-bytes o w f at n fits h i = step (where-is i at w)
   where
     step : Where i at w → getD (sets f at (encode o w n)) i 0 < 256
-    step (below lt) = rw (byte-frame o w f at n i (inl lt)) (h i)
     step (inside k e lt) = rw (e, sets-inside (encode o w n) f at k 0 (rw (length-encode o w n) fits) (rw (length-encode o w n) lt)) (encode-bytes o w n k)
-    step (above ge) = rw (byte-frame o w f at n i (inr ge)) (h i)
+    step (outside g) = rw (byte-frame o w f at n i g) (h i)
 
 -- two writes apart from each other, in either order
 pub write-comm : (o p : Order) (w v : ℕ) (f : List ℕ) (at n b m : ℕ) → Apart at w b v

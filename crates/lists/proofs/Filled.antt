@@ -1,7 +1,7 @@
 -- What a loop that fills a lent output leaves behind. After i turns the output's first places hold what the turns stored, and
 -- the rest is as it was: `listOf f i ++ drop i out`, or for lines of n elements `linesOf g i ++ drop (i * n) out`.
 -- Assumes nothing.
-use mathlib.Core.Path.{_≡_, sym, ap, _∙_}
+use mathlib.Core.Path.{_≡_, refl, sym, ap, _∙_}
 use mathlib.Core.List.{List, [], _∷_, _++_, append-assoc, append-nil}
 use Prim.Native.Nat.{ℕ, suc, _+_, _*_, _≤_, _<_}
 use native.Mathlib.Nat.{suc-mul}
@@ -13,9 +13,13 @@ use Rattle.lists.specs.Lists.{listOf, linesOf, over}
 use Rattle.lists.proofs.Built.{length-listOf, length-linesOf}
 
 module _ {A : Type 0} where
+  -- k elements in front of what stood behind the first k: the length is as it was
+  front-length : (l out : List A) (k : ℕ) → length l ≡ k → k ≤ length out → length (l ++ drop k out) ≡ length out
+  front-length l out k e h = length-append l (drop k out) ∙ omega (arith, length-drop k out)
+
   -- a copy leaves the output's length, its own elements in front, and what stood behind them
   pub length-over : (l out : List A) → length l ≤ length out → length (over l out) ≡ length out
-  length-over l out h = length-append l (drop (length l) out) ∙ omega (arith, length-drop (length l) out)
+  length-over l out h = front-length l out (length l) refl h
 
   pub over-all : (l out : List A) → length l ≡ length out → over l out ≡ l
   over-all l out e = rw (e, drop-length out) (append-nil l)
@@ -26,7 +30,7 @@ module _ {A : Type 0} (f : ℕ → A) where
   over-listOf n out = rw (length-listOf f n)
 
   pub filled-length : (i : ℕ) (out : List A) → i ≤ length out → length (listOf f i ++ drop i out) ≡ length out
-  filled-length i out h = length-append (listOf f i) (drop i out) ∙ omega (arith, length-listOf f i, length-drop i out)
+  filled-length i out h = front-length (listOf f i) out i (length-listOf f i) h
 
   -- one turn more
   pub filled-more : (i : ℕ) (out : List A) (d : A) → i < length out
@@ -58,7 +62,7 @@ module _ {A : Type 0} (f : ℕ → A) where
 -- lines of n elements each
 module _ {A : Type 0} (g : ℕ → List A) (n : ℕ) (all : (k : ℕ) → length (g k) ≡ n) where
   pub lines-length : (k : ℕ) (out : List A) → k * n ≤ length out → length (linesOf g k ++ drop (k * n) out) ≡ length out
-  lines-length k out h = length-append (linesOf g k) (drop (k * n) out) ∙ omega (arith, length-linesOf g n all k, length-drop (k * n) out)
+  lines-length k out h = front-length (linesOf g k) out (k * n) (length-linesOf g n all k) h
 
   -- one line more, stored into the middle
   pub lines-more : (k m : ℕ) (out : List A) → m ≡ n

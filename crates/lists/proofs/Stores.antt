@@ -9,36 +9,38 @@ use native.Mathlib.Decide.{decLt}
 use native.Mathlib.Omega.{arith}
 use lib.ListN.{length, getD, set, length-set}
 use lib.Seq.{sets, length-sets, getD-set-same, getD-set-other, set-set, set-comm, ext-getD}
-use Rattle.lists.specs.Lists.{Apart, part}
+use Rattle.lists.specs.Lists.{Outside, Apart, part}
 use Rattle.lists.proofs.Parts.{length-part, getD-part, part-same}
 
 -- where a place stands to the n places from a on
 pub data Where (i a n : ℕ) : Type 0 where
-  below : i < a → Where i a n
   inside : (k : ℕ) → i ≡ a + k → k < n → Where i a n
-  above : a + n ≤ i → Where i a n
+  outside : Outside i a n → Where i a n
 
 pub where-is : (i a n : ℕ) → Where i a n
 where-is i a n = step (decLt i a) (decLt i (a + n))
   where
     step : Dec (i < a) → Dec (i < a + n) → Where i a n
-    step (yes h) d = below h
+    step (yes h) d = outside (inl h)
     step (no h) (yes g) = inside (i - a) (omega arith) (omega arith)
-    step (no h) (no g) = above (omega arith)
+    step (no h) (no g) = outside (inr (omega arith))
+
+-- a place outside the n + 1 places from a on is not the first of them, and is outside the others
+not-first : (i a n : ℕ) → Outside i a (suc n) → i ≡ a → ⊥
+not-first i a n h e = ⊎-elim (λ lt. omega arith) (λ ge. omega arith) h
+
+outside-rest : (i a n : ℕ) → Outside i a (suc n) → Outside i (suc a) n
+outside-rest i a n h = ⊎-elim (λ lt. inl (omega arith)) (λ ge. inr (omega arith)) h
 
 module _ {A : Type 0} where
   -- a place outside is not changed, and a place inside holds what was stored there
-  pub sets-below : (b l : List A) (a i : ℕ) (d : A) → i < a → getD (sets l a b) i d ≡ getD l i d
-  sets-below [] l a i d h = refl
-  sets-below (x ∷ b) l a i d h = sets-below b (set l a x) (suc a) i d (omega arith) ∙ getD-set-other l a i x d (omega arith)
-
-  pub sets-above : (b l : List A) (a i : ℕ) (d : A) → a + length b ≤ i → getD (sets l a b) i d ≡ getD l i d
-  sets-above [] l a i d h = refl
-  sets-above (x ∷ b) l a i d h = sets-above b (set l a x) (suc a) i d (omega arith) ∙ getD-set-other l a i x d (omega arith)
+  pub sets-outside : (b l : List A) (a i : ℕ) (d : A) → Outside i a (length b) → getD (sets l a b) i d ≡ getD l i d
+  sets-outside [] l a i d h = refl
+  sets-outside (x ∷ b) l a i d h = sets-outside b (set l a x) (suc a) i d (outside-rest i a (length b) h) ∙ getD-set-other l a i x d (not-first i a (length b) h)
 
   pub sets-inside : (b l : List A) (a k : ℕ) (d : A) → a + length b ≤ length l → k < length b → getD (sets l a b) (a + k) d ≡ getD b k d
   sets-inside [] l a k d h lt = let z : ⊥ = omega arith in absurd z
-  sets-inside (x ∷ b) l a zero d h lt = rw add-zero (sets-below b (set l a x) (suc a) a d (omega arith) ∙ getD-set-same l a x d (omega arith))
+  sets-inside (x ∷ b) l a zero d h lt = rw add-zero (sets-outside b (set l a x) (suc a) a d (inl (omega arith)) ∙ getD-set-same l a x d (omega arith))
   sets-inside (x ∷ b) l a (suc k) d h lt = rw (add-suc, ← suc-add) (sets-inside b (set l a x) (suc a) k d (simp length-set (omega arith)) (omega arith))
 
   -- the part that was stored is what was stored, and a part elsewhere is as it was
@@ -50,14 +52,14 @@ module _ {A : Type 0} where
   pub part-apart : (b l : List A) (a c n : ℕ) (d : A) → Apart c n a (length b) → part c n (sets l a b) ≡ part c n l
   part-apart b l a c n d h =
       part-same c n (sets l a b) l d (length-sets l a b)
-      (λ i low high. ⊎-elim (λ x. sets-below b l a i d (omega arith)) (λ x. sets-above b l a i d (omega arith)) h)
+      (λ i low high. sets-outside b l a i d (⊎-elim (λ x. inl (omega arith)) (λ x. inr (omega arith)) h))
 
   -- a single store elsewhere, before or after
-  pub set-sets : (b l : List A) (a i : ℕ) (v : A) → (i < a) ⊎ (a + length b ≤ i) → sets (set l i v) a b ≡ set (sets l a b) i v
+  pub set-sets : (b l : List A) (a i : ℕ) (v : A) → Outside i a (length b) → sets (set l i v) a b ≡ set (sets l a b) i v
   set-sets [] l a i v h = refl
   set-sets (x ∷ b) l a i v h =
-      ap (λ (k : List A). sets k (suc a) b) (set-comm l i a v x (⊎-elim (λ lt e. omega arith) (λ ge e. omega arith) h))
-      ∙ set-sets b (set l a x) (suc a) i v (⊎-elim (λ lt. inl (omega arith)) (λ ge. inr (omega arith)) h)
+      ap (λ (k : List A). sets k (suc a) b) (set-comm l i a v x (not-first i a (length b) h))
+      ∙ set-sets b (set l a x) (suc a) i v (outside-rest i a (length b) h)
 
   -- two runs elsewhere, in either order
   pub sets-comm : (b c l : List A) (a e : ℕ) → Apart a (length b) e (length c) → sets (sets l a b) e c ≡ sets (sets l e c) a b

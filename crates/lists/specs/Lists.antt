@@ -4,9 +4,13 @@
 use mathlib.Core.Bool.{Bool}
 use mathlib.Core.Logic.{_⊎_}
 use mathlib.Core.List.{List, [], _∷_, _++_}
-use Prim.Native.Nat.{ℕ, zero, suc, _+_, _≤_}
+use Prim.Native.Nat.{ℕ, zero, suc, _+_, _≤_, _<_}
 use lib.ListN.{length, take, drop}
 use Rattle.lists.specs.Choices.{pick}
+
+-- the place i is not one of the n places from a on
+abbrev pub Outside : ℕ → ℕ → ℕ → Type 0
+Outside i a n = (i < a) ⊎ (a + n ≤ i)
 
 -- of the n places from a on and the m places from b on, one part ends before the other begins
 abbrev pub Apart : ℕ → ℕ → ℕ → ℕ → Type 0
@@ -32,6 +36,6 @@ module _ {A : Type 0} where
   keep t [] = []
   keep t (x ∷ l) = pick (t x) (x ∷ keep t l) (keep t l)
 
-  -- a lent output after a copy of l into it: its first places hold l, and what stands behind them is as it was
+  -- a lent output after a copy of l into it: "a successful copy writes the first places of the output and no more" (document 01)
   abbrev pub over : List A → List A → List A
   over l out = l ++ drop (length l) out

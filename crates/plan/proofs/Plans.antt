@@ -2,14 +2,14 @@
 -- Assumes nothing.
 use mathlib.Core.Path.{_≡_, refl, sym, _∙_}
 use mathlib.Core.Bool.{true, false, false≢true}
-use mathlib.Core.Logic.{_↔_}
+use mathlib.Core.Logic.{_↔_, ⊎-elim}
 use mathlib.Core.List.{List}
 use Prim.Native.Nat.{ℕ, _+_, _≤_, _<_}
 use native.Mathlib.Omega.{arith}
 use lib.ListN.{length, getD}
 use lib.Seq.{sets, length-sets}
 use borrow.Author.Tests.{eqb-true, eq-eqb, ne-eqb}
-use Rattle.lists.proofs.Stores.{Where, below, inside, above, where-is, sets-below, sets-above, sets-inside}
+use Rattle.lists.proofs.Stores.{Where, inside, outside, where-is, sets-outside, sets-inside}
 use Rattle.plan.specs.Plans.{Plan, write, refuse, after, SucceedsAt, succeedsAt, Covers}
 
 module _ {Answer : Type 0} where
@@ -29,9 +29,8 @@ module _ {Answer : Type 0} where
   after-other f (write r a b) i h = step (where-is i a (length b))
     where
       step : Where i a (length b) → getD (sets f a b) i 0 ≡ getD f i 0
-      step (below g) = sets-below b f a i 0 g
       step (inside k e g) = absurd (h (omega arith, omega arith))
-      step (above g) = sets-above b f a i 0 g
+      step (outside g) = sets-outside b f a i 0 g
 
   -- what a store leaves at a byte depends on that byte alone
   pub after-agree : (n : ℕ) (f g : List ℕ) (p : Plan Answer) (i : ℕ) → length f ≡ n → length g ≡ n → Inside n p → getD f i 0 ≡ getD g i 0
@@ -40,9 +39,8 @@ module _ {Answer : Type 0} where
   after-agree n f g (write r a b) i lf lg h e = step (where-is i a (length b))
     where
       step : Where i a (length b) → getD (sets f a b) i 0 ≡ getD (sets g a b) i 0
-      step (below q) = sets-below b f a i 0 q ∙ e ∙ sym (sets-below b g a i 0 q)
       step (inside k q lt) = rw q (sets-inside b f a k 0 (omega arith) lt ∙ sym (sets-inside b g a k 0 (omega arith) lt))
-      step (above q) = sets-above b f a i 0 q ∙ e ∙ sym (sets-above b g a i 0 q)
+      step (outside q) = sets-outside b f a i 0 q ∙ e ∙ sym (sets-outside b g a i 0 q)
 
   -- a store that covers a byte succeeds at an address
   pub address : (i : ℕ) (p : Plan Answer) → Covers i p → (a : ℕ) × SucceedsAt a p
@@ -55,9 +53,8 @@ module _ {Answer : Type 0} where
   covers i (write r a b) = step (where-is i a (length b))
     where
       step : Where i a (length b) → Dec ((a ≤ i) × (i < a + length b))
-      step (below q) = no (λ h. omega arith)
       step (inside k q lt) = yes (omega arith, omega arith)
-      step (above q) = no (λ h. omega arith)
+      step (outside q) = no (λ h. ⊎-elim (λ lt. omega arith) (λ ge. omega arith) q)
 
   -- the test for an address is exact
   pub succeeds-exactly : (c : ℕ) (p : Plan Answer) → (succeedsAt c p ≡ true) ↔ SucceedsAt c p

@@ -38,7 +38,7 @@ cast-result-2 c =
     subst (λ (z : ℤ). T (nonNeg z) × Fits w32 (natAbs z)) (sym (complement-bits c)) (tt, record { fits = omega (arith, high c .small) })
 
 sub-result-2 : tie.Need-sub-result-2
-sub-result-2 c = subst (λ (z : ℤ). natAbs z ≤ 4294967295) (sym (complement-bits c)) (omega (arith, high c .small))
+sub-result-2 c = rw (complement-bits c) (omega (arith, high c .small))
 
 returns : tie.Need-returns
 returns c = sym (ap (ofZ w32) (low c .number))
