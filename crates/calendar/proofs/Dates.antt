@@ -2,36 +2,36 @@
 -- Assumes nothing.
 use mathlib.Core.Path.{_≡_, refl, sym, ap, ap₂, _∙_}
 use mathlib.Core.Bool.{Bool, false≢true}
-use mathlib.Core.Logic.{_↔_, _⊎_, inl, inr}
+use mathlib.Core.Logic.{_↔_}
 use Prim.Native.Nat.{ℕ, suc, _+_, _-_, _*_, _≤_, _<_}
 use native.Mathlib.Omega.{arith}
 use lib.Dec.{leb·zero}
 use lib.IntN.{ℤ, pos, negsuc, pos-ne-negsuc}
 use lib.ListN.{getD}
 use borrow.Author.Tests.{leb-true, le-leb}
-use Rattle.refusal.specs.Rules.{Hold, AnswerType}
-use Rattle.refusal.specs.declared.Refusal.{Refusal}
+use Rattle.refusal.specs.Rules.{Hold}
+use Rattle.refusal.specs.Answers.{Answer, gives, refuses}
 use Rattle.refusal.proofs.Exactness.{within-exactly}
-use Rattle.refusal.proofs.Tables.{value-exactly, refused-same, exactly-one, exactly-none}
+use Rattle.refusal.proofs.Answers.{settled, value-exactly, exactly-one, exactly-none}
 use Rattle.calendar.specs.Gregorian.{leap, monthLengths, daysBefore, yearLength, IsDate, dayOfYear, monthOf, dateIn}
-use Rattle.calendar.specs.Dates.{yearOf, dayOf, dateRules, dateOf, DateWord}
+use Rattle.calendar.specs.Dates.{dateSays, yearOf, dayOf, dateRules, dateOf, DateWord}
 use Rattle.calendar.specs.declared.Date.{Date}
 use Rattle.calendar.specs.declared.DateAnswer.{DateAnswer}
 use Rattle.calendar.specs.declared.DateAnswer.the-variants.{On, Refused}
 use Rattle.calendar.proofs.Months.{days-mono, year-most, month-only, Lies, month-lies}
 
-answers : AnswerType On Refused
-answers =
-    record {
-      cases = either-case;
-      values = λ e. cc;
-      refusals = λ e. cc;
-      apart = λ e. let z : _≡_ {A = ℕ} 0 1 = cc in omega arith;
-    }
+-- what a date call's answer says settles the answer
+back : Answer Date → DateAnswer
+back (gives d) = On d
+back (refuses n p) = Refused (record { number = n; place = p })
+
+pub date-settled : (x y : DateAnswer) → dateSays x ≡ dateSays y → x ≡ y
+unfolding back
+date-settled = settled dateSays back (λ x. step x)
   where
-    either-case : (x : DateAnswer) → ((d : Date) × (x ≡ On d)) ⊎ ((r : Refusal) × (x ≡ Refused r))
-    either-case (On d) = inl (d, refl)
-    either-case (Refused r) = inr (r, refl)
+    step : (x : DateAnswer) → back (dateSays x) ≡ x
+    step (On d) = refl
+    step (Refused r) = refl
 
 -- ---- the rules
 
@@ -128,24 +128,25 @@ word-accepted d n w =
 -- ---- the claim
 
 -- the answer is a date exactly where the word is that date's yyyddd
-pub date-exactly : (z : ℤ) (d : Date) → (dateOf z ≡ On d) ↔ DateWord z d
+pub date-exactly : (z : ℤ) (d : Date) → (dateOf z ≡ gives d) ↔ DateWord z d
 unfolding dateOf
 date-exactly (pos n) d =
-    let x = value-exactly answers (dateRules (pos n)) (dateIn (yearOf (pos n)) (dayOf (pos n))) d in (
+    let x = value-exactly (dateRules (pos n)) (dateIn (yearOf (pos n)) (dayOf (pos n))) d in (
       λ e. rw (x .0 e .1) (accepted-word n (hold-accepted n (x .0 e .0))),
       λ w. let a = word-accepted d n w in x .1 (accepted-hold n (a .0), a .1),
     )
 date-exactly (negsuc n) d =
-    let x = value-exactly answers (dateRules (negsuc n)) (dateIn (yearOf (negsuc n)) (dayOf (negsuc n))) d in
+    let x = value-exactly (dateRules (negsuc n)) (dateIn (yearOf (negsuc n)) (dayOf (negsuc n))) d in
     (λ e. absurd (hold-negative n (x .0 e .0)), λ w. absurd (pos-ne-negsuc _ n (sym (w .yyyddd))))
 
 -- so there is at most one such date
 pub date-only : (z : ℤ) (d e : Date) → DateWord z d → DateWord z e → d ≡ e
-date-only = exactly-one answers dateOf DateWord date-exactly
+unfolding dateOf
+date-only = exactly-one DateWord dateRules (λ z. dateIn (yearOf z) (dayOf z)) date-exactly
 
 -- and the answer is refusal 11 at place 0 exactly where there is none
-pub date-refused : (z : ℤ) → (dateOf z ≡ Refused (record { number = 11; place = 0 })) ↔ ((d : Date) → ¬ DateWord z d)
+pub date-refused : (z : ℤ) → (dateOf z ≡ refuses 11 0) ↔ ((d : Date) → ¬ DateWord z d)
 unfolding dateOf dateRules
 date-refused =
-    exactly-none answers dateOf DateWord date-exactly _
-    (λ z r e. refused-same answers (dateRules z) (dateIn (yearOf z) (dayOf z)) _ r (refl, (refl, (refl, tt))) e)
+    exactly-none DateWord dateRules (λ z. dateIn (yearOf z) (dayOf z)) date-exactly (record { number = 11; place = 0 })
+    (λ z. (refl, (refl, (refl, tt))))

@@ -2,32 +2,32 @@
 -- Assumes nothing.
 use mathlib.Core.Path.{_≡_, refl, sym, ap}
 use mathlib.Core.Bool.{false≢true}
-use mathlib.Core.Logic.{_↔_, _⊎_, inl, inr}
-use Prim.Native.Nat.{ℕ, _+_, _*_, _/_, _%_}
+use mathlib.Core.Logic.{_↔_}
+use Prim.Native.Nat.{_+_, _*_, _/_, _%_}
 use native.Mathlib.Omega.{arith}
 use lib.Dec.{leb·zero}
 use lib.IntN.{ℤ, pos, negsuc, pos-ne-negsuc}
 use borrow.Author.Tests.{leb-true, le-leb}
-use Rattle.refusal.specs.Rules.{Hold, AnswerType}
-use Rattle.refusal.specs.declared.Refusal.{Refusal}
-use Rattle.refusal.proofs.Tables.{value-exactly, refused-same, exactly-one, exactly-none}
-use Rattle.calendar.specs.Times.{timeIn, timeRules, timeOf, TimeWord}
+use Rattle.refusal.specs.Rules.{Hold}
+use Rattle.refusal.specs.Answers.{Answer, gives, refuses}
+use Rattle.refusal.proofs.Answers.{settled, value-exactly, exactly-one, exactly-none}
+use Rattle.calendar.specs.Times.{timeSays, timeIn, timeRules, timeOf, TimeWord}
 use Rattle.calendar.specs.declared.TimeOfDay.{TimeOfDay}
 use Rattle.calendar.specs.declared.TimeAnswer.{TimeAnswer}
 use Rattle.calendar.specs.declared.TimeAnswer.the-variants.{At, Refused}
 
-answers : AnswerType At Refused
-answers =
-    record {
-      cases = either-case;
-      values = λ e. cc;
-      refusals = λ e. cc;
-      apart = λ e. let z : _≡_ {A = ℕ} 0 1 = cc in omega arith;
-    }
+-- what a time call's answer says settles the answer
+back : Answer TimeOfDay → TimeAnswer
+back (gives t) = At t
+back (refuses n p) = Refused (record { number = n; place = p })
+
+pub time-settled : (x y : TimeAnswer) → timeSays x ≡ timeSays y → x ≡ y
+unfolding back
+time-settled = settled timeSays back (λ x. step x)
   where
-    either-case : (x : TimeAnswer) → ((t : TimeOfDay) × (x ≡ At t)) ⊎ ((r : Refusal) × (x ≡ Refused r))
-    either-case (At t) = inl (t, refl)
-    either-case (Refused r) = inr (r, refl)
+    step : (x : TimeAnswer) → back (timeSays x) ≡ x
+    step (At t) = refl
+    step (Refused r) = refl
 
 -- the rules hold exactly where the word is the hhmmss of the time of day that it holds
 hold-word : (z : ℤ) → Hold (timeRules z) → TimeWord z (timeIn z)
@@ -60,19 +60,19 @@ word-hold (pos n) t w =
 word-hold (negsuc n) t w = absurd (pos-ne-negsuc _ n (sym (w .hhmmss)))
 
 -- the answer is a time of day exactly where the word is that time's hhmmss
-pub time-exactly : (z : ℤ) (t : TimeOfDay) → (timeOf z ≡ At t) ↔ TimeWord z t
+pub time-exactly : (z : ℤ) (t : TimeOfDay) → (timeOf z ≡ gives t) ↔ TimeWord z t
 unfolding timeOf
 time-exactly z t =
-    let x = value-exactly answers (timeRules z) (timeIn z) t in
+    let x = value-exactly (timeRules z) (timeIn z) t in
     (λ e. rw (x .0 e .1) (hold-word z (x .0 e .0)), λ w. x .1 (word-hold z t w))
 
 -- so there is at most one such time of day
 pub time-only : (z : ℤ) (t u : TimeOfDay) → TimeWord z t → TimeWord z u → t ≡ u
-time-only = exactly-one answers timeOf TimeWord time-exactly
+unfolding timeOf
+time-only = exactly-one TimeWord timeRules timeIn time-exactly
 
 -- and the answer is refusal 11 at place 0 exactly where there is none
-pub time-refused : (z : ℤ) → (timeOf z ≡ Refused (record { number = 11; place = 0 })) ↔ ((t : TimeOfDay) → ¬ TimeWord z t)
+pub time-refused : (z : ℤ) → (timeOf z ≡ refuses 11 0) ↔ ((t : TimeOfDay) → ¬ TimeWord z t)
 unfolding timeOf timeRules
 time-refused =
-    exactly-none answers timeOf TimeWord time-exactly _
-    (λ z r e. refused-same answers (timeRules z) (timeIn z) _ r (refl, (refl, (refl, (refl, tt)))) e)
+    exactly-none TimeWord timeRules timeIn time-exactly (record { number = 11; place = 0 }) (λ z. (refl, (refl, (refl, (refl, tt)))))

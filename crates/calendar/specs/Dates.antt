@@ -7,12 +7,18 @@ use Prim.Native.Nat.{ℕ, _+_, _-_, _*_, _/_, _%_, _≤_}
 use lib.Dec.{leb}
 use lib.IntN.{ℤ, pos, natAbs}
 use lib.Signed.{leZ}
-use Rattle.refusal.specs.Rules.{Rule, rule, firstFault, answered}
+use Rattle.refusal.specs.Rules.{Rule, rule, firstFault}
+use Rattle.refusal.specs.Answers.{Answer, gives, refuses, answered}
 use Rattle.refusal.specs.Tests.{within}
 use Rattle.calendar.specs.Gregorian.{leap, yearLength, IsDate, dayOfYear, dateIn}
 use Rattle.calendar.specs.declared.Date.{Date}
 use Rattle.calendar.specs.declared.DateAnswer.{DateAnswer}
 use Rattle.calendar.specs.declared.DateAnswer.the-variants.{On, Refused}
+
+-- what each case of a date call's answer says
+abbrev pub dateSays : DateAnswer → Answer Date
+dateSays (On d) = gives d
+dateSays (Refused r) = refuses (r .number) (r .place)
 
 -- the year that a word holds
 abbrev pub yearOf : ℤ → ℕ
@@ -31,8 +37,8 @@ dateRules word =
     ∷ []
 
 -- the answer of the date call: the date, or the refusal of the first rule that fails
-unfoldable pub dateOf : ℤ → DateAnswer
-dateOf word = answered On Refused (firstFault (dateRules word)) (dateIn (yearOf word) (dayOf word))
+unfoldable pub dateOf : ℤ → Answer Date
+dateOf word = answered (firstFault (dateRules word)) (dateIn (yearOf word) (dayOf word))
 
 -- a word is the yyyddd of a date
 pub record DateWord (word : ℤ) (d : Date) : Type 0 where

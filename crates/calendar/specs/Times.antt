@@ -6,10 +6,16 @@ use Prim.Native.Nat.{_+_, _*_, _/_, _%_, _≤_}
 use lib.Dec.{leb}
 use lib.IntN.{ℤ, pos, natAbs}
 use lib.Signed.{leZ}
-use Rattle.refusal.specs.Rules.{Rule, rule, firstFault, answered}
+use Rattle.refusal.specs.Rules.{Rule, rule, firstFault}
+use Rattle.refusal.specs.Answers.{Answer, gives, refuses, answered}
 use Rattle.calendar.specs.declared.TimeOfDay.{TimeOfDay}
 use Rattle.calendar.specs.declared.TimeAnswer.{TimeAnswer}
 use Rattle.calendar.specs.declared.TimeAnswer.the-variants.{At, Refused}
+
+-- what each case of a time call's answer says
+abbrev pub timeSays : TimeAnswer → Answer TimeOfDay
+timeSays (At t) = gives t
+timeSays (Refused r) = refuses (r .number) (r .place)
 
 -- the hours, minutes and seconds that a word holds
 abbrev pub timeIn : ℤ → TimeOfDay
@@ -25,8 +31,8 @@ timeRules word =
     ∷ []
 
 -- the answer of the time call: the time of day, or the refusal of the first rule that fails
-unfoldable pub timeOf : ℤ → TimeAnswer
-timeOf word = answered At Refused (firstFault (timeRules word)) (timeIn word)
+unfoldable pub timeOf : ℤ → Answer TimeOfDay
+timeOf word = answered (firstFault (timeRules word)) (timeIn word)
 
 -- a word is the hhmmss of a time of day
 pub record TimeWord (word : ℤ) (t : TimeOfDay) : Type 0 where

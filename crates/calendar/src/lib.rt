@@ -10,8 +10,8 @@ ghost use mathlib.Core.Path.{_≡_};
 ghost use lib.IntN.{pos};
 ghost use Prim.Native.Nat.{_≤_, _<_};
 ghost use Rattle.calendar.specs.Gregorian.{leap, daysBefore, yearLength, monthOf, dateIn};
-ghost use Rattle.calendar.specs.Dates.{dateOf};
-ghost use Rattle.calendar.specs.Times.{timeOf};
+ghost use Rattle.calendar.specs.Dates.{dateSays, dateOf};
+ghost use Rattle.calendar.specs.Times.{timeSays, timeOf};
 
 // A date of the Gregorian calendar. Months and days are counted from 1.
 pub struct Date {
@@ -123,7 +123,7 @@ fn date_in(year: u32, day: u32) -> Date
 
 // The date of a word that is not negative, or refusal 11.
 fn date_of_number(n: u32) -> DateAnswer
-    ensures { λ r. ⌜ r ≡ dateOf (pos n) ⌝ }
+    ensures { λ r. ⌜ dateSays r ≡ dateOf (pos n) ⌝ }
 {
     let year = 1900 + n / 1000;
     let day = n % 1000;
@@ -138,7 +138,7 @@ fn date_of_number(n: u32) -> DateAnswer
 // The date of a word yyyddd: 1000 times the years since 1900, and the day of the year. Refused with 11 where the word is
 // negative or above 999,999, or its day is not one of that year.
 pub fn date_of(word: i32) -> DateAnswer
-    ensures { λ r. ⌜ r ≡ dateOf word ⌝ }
+    ensures { λ r. ⌜ dateSays r ≡ dateOf word ⌝ }
 {
     if 0 <= word {
         return date_of_number(word as u32);
@@ -151,7 +151,7 @@ pub fn date_of(word: i32) -> DateAnswer
 
 // The time of day of a word that is not negative, or refusal 11.
 fn time_of_number(n: u32) -> TimeAnswer
-    ensures { λ r. ⌜ r ≡ timeOf (pos n) ⌝ }
+    ensures { λ r. ⌜ timeSays r ≡ timeOf (pos n) ⌝ }
 {
     let hours = n / 10000;
     let minutes = n / 100 % 100;
@@ -171,7 +171,7 @@ fn time_of_number(n: u32) -> TimeAnswer
 // The time of day of a word hhmmss. Refused with 11 where the word is negative, its hours are above 23, or its minutes or
 // seconds above 59.
 pub fn time_of(word: i32) -> TimeAnswer
-    ensures { λ r. ⌜ r ≡ timeOf word ⌝ }
+    ensures { λ r. ⌜ timeSays r ≡ timeOf word ⌝ }
 {
     if 0 <= word {
         return time_of_number(word as u32);

@@ -5,9 +5,11 @@ use mathlib.Core.Logic.{_⊎_, inl, inr}
 use mathlib.Core.List.{List, [], _∷_, map, List·Memᴰ, List·Memᴰ·head, List·Memᴰ·tail, List·Memᴰ·not-nil, List·Memᴰ·append-cases}
 use Prim.Native.Nat.{ℕ}
 use lib.ListN.{length}
-use Rattle.plan.specs.Stores.{System, Laws, All, alone, fileAfter}
-use Rattle.plan.specs.Calls.{Told, CallSystem, CallLaws, fileAfterCalls, told, callOutcome, CallRun, done, call, toldAlone, items, Demand3Calls, Request13Calls}
-use Rattle.plan.proofs.Claims.{order-free, last-stands, answers-alone, opening-after, length-after-all, fileAfter-append}
+use Rattle.plan.specs.Series.{leaves, replies}
+use Rattle.plan.specs.Stores.{System, Laws, All, alone, stores, fileAfter}
+use Rattle.plan.specs.Calls.{CallSystem, CallLaws, callOutcome, fileAfterCalls, told, toldAlone, items, Demand3Calls, Request13Calls}
+use Rattle.plan.proofs.Claims.{order-free, last-stands, answers-alone, opening-after, length-after-all}
+use Rattle.plan.proofs.Series.{leaves-append}
 
 module _ {Store Answer Opened Value : Type 0} (S : System Store Answer Opened Value) (L : Laws S) {Call Whole : Type 0} (C : CallSystem S Call Whole) (K : CallLaws S C) where
   -- calls on a file g that opens as f does: each makes the stores that it makes of f, and is told what it is told alone on f
@@ -16,7 +18,7 @@ module _ {Store Answer Opened Value : Type 0} (S : System Store Answer Opened Va
     answered : told S C g l ≡ map (toldAlone S C f) l
 
   made : (f g : List ℕ) (l : List Call) → All (C .Fit) l → S .opening g ≡ S .opening f → length g ≡ length f → Made f g l
-  unfolding fileAfter fileAfterCalls told items
+  unfolding leaves replies callOutcome items
   made f g [] ok v n = record { bytes = refl; answered = refl }
   made f g (c ∷ l) ok v n =
       let okc = ok c (List·Memᴰ·head refl) in
@@ -27,7 +29,7 @@ module _ {Store Answer Opened Value : Type 0} (S : System Store Answer Opened Va
         bytes =
             r .bytes
             ∙ ap (λ (x : List Store). fileAfter S (fileAfter S g x) (items S C f l)) e
-            ∙ sym (fileAfter-append S g (C .makes f c) (items S C f l));
+            ∙ sym (leaves-append (stores S) g (C .makes f c) (items S C f l));
         answered =
             ap₂ _∷_
             (λ i. record {
@@ -69,14 +71,3 @@ module _ {Store Answer Opened Value : Type 0} (S : System Store Answer Opened Va
         answered = r .answered;
         answered′ = r′ .answered;
       }
-
-module _ {Store Answer Opened Value : Type 0} (S : System Store Answer Opened Value) {Call Whole : Type 0} (C : CallSystem S Call Whole) where
-  -- functions that keep their contracts, called one after another, are told and leave what the theory says
-  pub call-run-is : {f h : List ℕ} {l : List Call} {rs : List (Told Whole Answer)} → CallRun S C f l rs h
-      → (rs ≡ told S C f l) × (h ≡ fileAfterCalls S C f l)
-  unfolding fileAfterCalls told callOutcome
-  call-run-is (done e) = (refl, e)
-  call-run-is (call {g = g} {c = c} {l = l} e k) =
-      let (a, b) = call-run-is k in
-      let left : g ≡ fileAfter S _ (C .makes _ c) = ap (λ p. p .1) e in
-      (ap₂ _∷_ (ap (λ p. p .0) e) (a ∙ ap (λ (x : List ℕ). told S C x l) left), b ∙ ap (λ (x : List ℕ). fileAfterCalls S C x l) left)

@@ -15,11 +15,13 @@ use Rattle.lists.specs.Lists.{part, keep}
 use Rattle.lists.proofs.Parts.{length-part, getD-part}
 use Rattle.lists.proofs.Stores.{sets-inside}
 use Rattle.plan.specs.Plans.{Plan, write, refuse, answer, after, outcome, SucceedsAt, succeedsAt, Covers, Holds}
-use Rattle.plan.specs.Stores.{OrderOf, All, System, Laws, alone, fileAfter, answers, storesAt, Distinct, Run, done, call}
+use Rattle.plan.specs.Series.{leaves, replies}
+use Rattle.plan.specs.Stores.{OrderOf, All, System, Laws, alone, fileAfter, answers, storesAt, Distinct}
 use Rattle.plan.specs.Claims.{Demand3, LastStands, Request13}
 use Rattle.plan.proofs.Orders.{order-mem, order-keep, order-single, only-member}
 use Rattle.plan.proofs.Plans.{Inside, length-after, address, succeeds-exactly}
-use Rattle.plan.proofs.Runs.{carried, length-carried, carried-append, carried-other, here, carried-here, mem-here, here-mem, none-here, find}
+use Rattle.plan.proofs.Series.{leaves-append}
+use Rattle.plan.proofs.Runs.{carried, length-carried, carried-other, here, carried-here, mem-here, here-mem, none-here, find}
 
 module _ {Store Answer Opened Value : Type 0} (S : System Store Answer Opened Value) (L : Laws S) where
   -- the laws, of plans that may be refusals
@@ -55,7 +57,7 @@ module _ {Store Answer Opened Value : Type 0} (S : System Store Answer Opened Va
     opening : S .opening (fileAfter S g l) ≡ S .opening f
 
   planned : (f g : List ℕ) (l : List Store) → All (S .Fit) l → S .opening g ≡ S .opening f → length g ≡ length f → Planned f g l
-  unfolding fileAfter answers carried
+  unfolding leaves replies outcome
   planned f g [] ok v n = record { bytes = refl; told = refl; opening = v }
   planned f g (s ∷ l) ok v n =
       let e : S .plan g s ≡ S .plan f s = L .by-opening g f s (ok s (List·Memᴰ·head refl)) v n in
@@ -104,7 +106,7 @@ module _ {Store Answer Opened Value : Type 0} (S : System Store Answer Opened Va
   -- the last store at an address is read back
   read-last : (f : List ℕ) (l : List Store) → All (S .Fit) l → (a : ℕ) (before : List Store) (s : Store)
       → storesAt S f a l ≡ before ++ s ∷ [] → S .read (fileAfter S f l) s ≡ S .number s
-  unfolding storesAt carried
+  unfolding storesAt leaves outcome
   read-last f l ok a before s e = step (S .plan f s) refl (in-l .1)
     where
       in-l : List·Memᴰ s l × SucceedsAt a (S .plan f s)
@@ -132,7 +134,7 @@ module _ {Store Answer Opened Value : Type 0} (S : System Store Answer Opened Va
               ap (λ (x : List ℕ). getD x (c + k) 0) (p .bytes)
               ∙ carried-here (S .plan f) (length f) (c + k) a f f l (λ t tl kt. meet-of f s t (c + k) a okₛ (ok t tl) (rw q (omega arith, omega arith)) (in-l .1) kt) (λ t tl. inside-of f t (ok t tl)) refl refl refl
               ∙ ap (λ (x : List Store). getD (carried (S .plan f) f x) (c + k) 0) e
-              ∙ ap (λ (x : List ℕ). getD x (c + k) 0) (carried-append (S .plan f) f before (s ∷ []))
+              ∙ ap (λ (x : List ℕ). getD x (c + k) 0) (leaves-append (λ (g : List ℕ) (t : Store). outcome g (S .plan f t)) f before (s ∷ []))
               ∙ ap (λ (r : Plan Answer). getD (after (carried (S .plan f) f before) r) (c + k) 0) q
               ∙ sets-inside b (carried (S .plan f) f before) c k 0 (rw length-carried fits) lt
 
@@ -191,26 +193,3 @@ module _ {Store Answer Opened Value : Type 0} (S : System Store Answer Opened Va
         size = w .size;
         opening = w .opening;
       }
-
-module _ {Store Answer Opened Value : Type 0} (S : System Store Answer Opened Value) where
-  -- functions that keep their contracts, called one after another, give the answers and the file of the theory
-  pub run-is : {f h : List ℕ} {l : List Store} {rs : List Answer} → Run S f l rs h → (rs ≡ answers S f l) × (h ≡ fileAfter S f l)
-  unfolding fileAfter answers outcome
-  run-is (done e) = (refl, e)
-  run-is (call {g = g} {s = s} {l = l} e c) =
-      let (a, b) = run-is c in
-      let told = ap (λ p. p .0) e in
-      let left : g ≡ after _ (S .plan _ s) = ap (λ p. p .1) e in
-      (ap₂ _∷_ told (a ∙ ap (λ (x : List ℕ). answers S x l) left), b ∙ ap (λ (x : List ℕ). fileAfter S x l) left)
-
-  -- the file after two lists of stores that are joined
-  pub fileAfter-append : (f : List ℕ) (l m : List Store) → fileAfter S f (l ++ m) ≡ fileAfter S (fileAfter S f l) m
-  unfolding fileAfter
-  fileAfter-append f [] m = refl
-  fileAfter-append f (s ∷ l) m = fileAfter-append (after f (S .plan f s)) l m
-
-  -- what they are answered
-  pub answers-append : (f : List ℕ) (l m : List Store) → answers S f (l ++ m) ≡ answers S f l ++ answers S (fileAfter S f l) m
-  unfolding fileAfter answers
-  answers-append f [] m = refl
-  answers-append f (s ∷ l) m = ap (λ (x : List Answer). answer (S .plan f s) ∷ x) (answers-append (after f (S .plan f s)) l m)

@@ -1,5 +1,6 @@
 pub mod Orders
 pub mod Plans
+pub mod Series
 pub mod Runs
 pub mod Claims
 pub mod Calls

@@ -3,37 +3,31 @@
 use mathlib.Core.Path.{_≡_, refl, sym, _∙_}
 use mathlib.Core.Bool.{Bool, true, false, false≢true}
 use mathlib.Core.Logic.{_⊎_, inl, inr}
-use mathlib.Core.List.{List, [], _∷_, _++_, List·Memᴰ, List·Memᴰ·head, List·Memᴰ·tail, List·Memᴰ·not-nil, List·Memᴰ·cases-cons}
+use mathlib.Core.List.{List, [], _∷_, List·Memᴰ, List·Memᴰ·head, List·Memᴰ·tail, List·Memᴰ·not-nil, List·Memᴰ·cases-cons}
 use Prim.Native.Nat.{ℕ}
 use lib.ListN.{length, getD}
 use Rattle.lists.specs.Choices.{pick}
 use Rattle.lists.specs.Lists.{keep}
 use Rattle.lists.proofs.Kept.{kept-is, is-kept, keep-none}
-use Rattle.plan.specs.Plans.{Plan, after, SucceedsAt, succeedsAt, Covers}
+use Rattle.plan.specs.Plans.{Plan, after, outcome, SucceedsAt, succeedsAt, Covers}
+use Rattle.plan.specs.Series.{leaves}
 use Rattle.plan.specs.Stores.{All}
+use Rattle.plan.proofs.Series.{leaves-length}
 use Rattle.plan.proofs.Plans.{Inside, length-after, after-other, after-agree, covers, succeeds-exactly, not-at}
 
 module _ {X Answer : Type 0} (P : X → Plan Answer) where
   -- the file after them
-  unfoldable pub carried : List ℕ → List X → List ℕ
-  carried g [] = g
-  carried g (s ∷ l) = carried (after g (P s)) l
+  abbrev pub carried : List ℕ → List X → List ℕ
+  carried g l = leaves (λ f s. outcome f (P s)) g l
 
   -- it is as long
   pub length-carried : (g : List ℕ) (l : List X) → length (carried g l) ≡ length g
-  unfolding carried
-  length-carried g [] = refl
-  length-carried g (s ∷ l) = length-carried (after g (P s)) l ∙ length-after g (P s)
-
-  -- a run in two pieces
-  pub carried-append : (g : List ℕ) (l m : List X) → carried g (l ++ m) ≡ carried (carried g l) m
-  unfolding carried
-  carried-append g [] m = refl
-  carried-append g (s ∷ l) m = carried-append (after g (P s)) l m
+  unfolding outcome
+  length-carried g l = leaves-length (λ f s. outcome f (P s)) (λ f s. length-after f (P s)) g l
 
   -- a byte that no store covers is left as it is
   pub carried-other : (i : ℕ) (g : List ℕ) (l : List X) → All (λ s. ¬ Covers i (P s)) l → getD (carried g l) i 0 ≡ getD g i 0
-  unfolding carried
+  unfolding leaves outcome
   carried-other i g [] h = refl
   carried-other i g (s ∷ l) h =
       carried-other i (after g (P s)) l (λ t m. h t (List·Memᴰ·tail m)) ∙ after-other g (P s) i (h s (List·Memᴰ·head refl))
@@ -46,7 +40,7 @@ module _ {X Answer : Type 0} (P : X → Plan Answer) where
   pub carried-here : (n i a : ℕ) (g k : List ℕ) (l : List X) → All (λ s. Covers i (P s) → SucceedsAt a (P s)) l
       → All (λ s. Inside n (P s)) l
       → length g ≡ n → length k ≡ n → getD g i 0 ≡ getD k i 0 → getD (carried g l) i 0 ≡ getD (carried k (here a l)) i 0
-  unfolding carried keep
+  unfolding leaves outcome keep
   carried-here n i a g k [] h fit lg lk e = e
   carried-here n i a g k (s ∷ l) h fit lg lk e =
       step (succeedsAt a (P s)) refl

@@ -11,7 +11,8 @@ use lib.Seq.{length-sets}
 use borrow.Author.Tests.{eqb-true, eq-eqb, ltb-true}
 use Rattle.lists.specs.Choices.{pick}
 use Rattle.lists.proofs.Parts.{getD-part}
-use Rattle.plan.specs.Plans.{Plan, write, refuse, Holds}
+use Rattle.plan.specs.Plans.{Plan, write, refuse, outcome, Holds}
+use Rattle.plan.specs.Series.{leaves, replies}
 use Rattle.plan.specs.Stores.{fileAfter, answers}
 use Rattle.plan.specs.Claims.{Demand3}
 use Rattle.plan.specs.Formats.{Format, plan, system, Writes, FormatLaws}
@@ -93,9 +94,9 @@ abbrev puts : List Put
 puts = put 3 0 7 ∷ put 4 1 8 ∷ put 3 2 9 ∷ []
 
 bytes-left : fileAfter (system cells tt) (1 ∷ 2 ∷ 3 ∷ []) puts ≡ 7 ∷ 2 ∷ 9 ∷ []
-unfolding fileAfter plan
+unfolding leaves outcome plan
 bytes-left = refl
 
 answers-given : answers (system cells tt) (1 ∷ 2 ∷ 3 ∷ []) puts ≡ stored ∷ stale ∷ stored ∷ []
-unfolding answers plan
+unfolding replies outcome plan
 answers-given = refl

@@ -6,10 +6,11 @@ use mathlib.Core.Path.{_≡_}
 use mathlib.Core.List.{List, [], _∷_, _++_, map}
 use Prim.Native.Nat.{ℕ}
 use lib.ListN.{length}
+use Rattle.plan.specs.Series.{leaves, replies}
 use Rattle.plan.specs.Stores.{System, OrderOf, All, alone, fileAfter, answers, storesAt, Distinct}
 use Rattle.plan.specs.Claims.{OrderFree, LastStands}
 
--- what a call is told: for the call as a whole, and in its answer slots
+-- what a call is told: for the call as a whole, and in its answer slots; "answer slot" is request 3's term
 pub record Told (Whole Answer : Type 0) : Type 0 where
   pub whole : Whole
   pub slots : List Answer
@@ -34,25 +35,17 @@ module _ {Store Answer Opened Value : Type 0} (S : System Store Answer Opened Va
       pub whole-by-opening : (f g : List ℕ) (c : Call) → C .Fit c → S .opening f ≡ S .opening g → length f ≡ length g
           → C .whole f c ≡ C .whole g c
 
-    -- the file after calls made one after another
-    unfoldable pub fileAfterCalls : List ℕ → List Call → List ℕ
-    fileAfterCalls f [] = f
-    fileAfterCalls f (c ∷ l) = fileAfterCalls (fileAfter S f (C .makes f c)) l
-
-    -- what each of them is told
-    unfoldable pub told : List ℕ → List Call → List (Told Whole Answer)
-    told f [] = []
-    told f (c ∷ l) = record { whole = C .whole f c; slots = answers S f (C .makes f c) } ∷ told (fileAfter S f (C .makes f c)) l
-
-    -- both at once: what the contract of a function that makes such a call says of what it is told and of the lent file
+    -- what a call is told on a file, and the file that it leaves: what the contract of a function that makes such a call says
     unfoldable pub callOutcome : List ℕ → Call → Told Whole Answer × List ℕ
     callOutcome f c = (record { whole = C .whole f c; slots = answers S f (C .makes f c) }, fileAfter S f (C .makes f c))
 
-    -- functions that make calls, called one after another from the file f to the file h, by what their contracts say
-    pub data CallRun : List ℕ → List Call → List (Told Whole Answer) → List ℕ → Type 0 where
-      done : {f h : List ℕ} → h ≡ f → CallRun f [] [] h
-      call : {f g h : List ℕ} {c : Call} {l : List Call} {r : Told Whole Answer} {rs : List (Told Whole Answer)}
-          → (r, g) ≡ callOutcome f c → CallRun g l rs h → CallRun f (c ∷ l) (r ∷ rs) h
+    -- the file after calls made one after another
+    abbrev pub fileAfterCalls : List ℕ → List Call → List ℕ
+    fileAfterCalls f l = leaves callOutcome f l
+
+    -- what each of them is told
+    abbrev pub told : List ℕ → List Call → List (Told Whole Answer)
+    told f l = replies callOutcome f l
 
     -- what a call is told alone on a file, each item answered as its single store alone
     abbrev pub toldAlone : List ℕ → Call → Told Whole Answer

@@ -1,4 +1,5 @@
 pub mod Plans
+pub mod Series
 pub mod Stores
 pub mod Claims
 pub mod Formats

@@ -1,4 +1,4 @@
--- Stores one after another.
+-- The stores of a file format, made one after another.
 -- Assumes nothing.
 use mathlib.Core.Path.{_≡_}
 use mathlib.Core.List.{List, [], _∷_, List·Memᴰ, List·Permᴰ}
@@ -6,7 +6,8 @@ use Prim.Native.Nat.{ℕ, _+_, _≤_, _<_}
 use lib.ListN.{length}
 use lib.Seq.{sets}
 use Rattle.lists.specs.Lists.{keep}
-use Rattle.plan.specs.Plans.{Plan, write, answer, after, outcome, SucceedsAt, succeedsAt, Holds}
+use Rattle.plan.specs.Plans.{Plan, write, answer, outcome, SucceedsAt, succeedsAt, Holds}
+use Rattle.plan.specs.Series.{leaves, replies}
 
 -- the second list is an order of the first: it has the same members, each as often (a permutation)
 abbrev pub OrderOf : {X : Type 0} → List X → List X → Type 0
@@ -33,16 +34,17 @@ module _ {Store Answer Opened Value : Type 0} (S : System Store Answer Opened Va
   abbrev pub alone : List ℕ → Store → Answer
   alone f s = answer (S .plan f s)
 
-  -- the file after stores made one after another, from left to right: the first gets the file as it came, each later one the file as
-  -- the store before it left it
-  unfoldable pub fileAfter : List ℕ → List Store → List ℕ
-  fileAfter f [] = f
-  fileAfter f (s ∷ l) = fileAfter (after f (S .plan f s)) l
+  -- what a store is answered on a file, and the file that it leaves
+  abbrev pub stores : List ℕ → Store → Answer × List ℕ
+  stores f s = outcome f (S .plan f s)
+
+  -- the file after stores made one after another
+  abbrev pub fileAfter : List ℕ → List Store → List ℕ
+  fileAfter f l = leaves stores f l
 
   -- what each of them is answered
-  unfoldable pub answers : List ℕ → List Store → List Answer
-  answers f [] = []
-  answers f (s ∷ l) = answer (S .plan f s) ∷ answers (after f (S .plan f s)) l
+  abbrev pub answers : List ℕ → List Store → List Answer
+  answers f l = replies stores f l
 
   -- the stores of a list that succeed at an address, alone on a file
   unfoldable pub storesAt : List ℕ → ℕ → List Store → List Store
@@ -52,13 +54,6 @@ module _ {Store Answer Opened Value : Type 0} (S : System Store Answer Opened Va
   abbrev pub Distinct : List ℕ → List Store → Type 0
   Distinct f [] = Unit {0}
   Distinct f (s ∷ l) = All (λ t. (a : ℕ) → SucceedsAt a (S .plan f s) → SucceedsAt a (S .plan f t) → ⊥) l × Distinct f l
-
-  -- Functions that store, called one after another from the file f to the file h, by what their contracts say: the call of the
-  -- store s on f answers r and leaves g.
-  pub data Run : List ℕ → List Store → List Answer → List ℕ → Type 0 where
-    done : {f h : List ℕ} → h ≡ f → Run f [] [] h
-    call : {f g h : List ℕ} {s : Store} {l : List Store} {r : Answer} {rs : List Answer} → (r, g) ≡ outcome f (S .plan f s)
-        → Run g l rs h → Run f (s ∷ l) (r ∷ rs) h
 
   -- a store that is meant succeeds, and writes b at address a
   pub record Succeeds (f : List ℕ) (s : Store) (a : ℕ) (b : List ℕ) : Type 0 where

@@ -1,13 +1,12 @@
 -- Laws of tables of rules.
 -- Assumes nothing.
-use mathlib.Core.Path.{_≡_, refl, sym, ap, _∙_}
+use mathlib.Core.Path.{_≡_, refl, sym, ap, subst, _∙_}
 use mathlib.Core.Bool.{Bool, true, false}
-use mathlib.Core.Logic.{_↔_, _⊎_, inl, inr}
 use mathlib.Core.List.{List, [], _∷_, _++_}
 use Prim.Native.Nat.{ℕ}
 use native.Mathlib.Omega.{arith}
 use Rattle.lists.specs.Choices.{pick}
-use Rattle.refusal.specs.Rules.{Rule, refusalOf, judge, first, firstFault, answered, AnswerType, chained, Hold, Give, FirstFailing}
+use Rattle.refusal.specs.Rules.{Rule, refusalOf, judge, first, firstFault, chained, Every, Hold, Give, FirstFailing}
 use Rattle.refusal.specs.declared.Refusal.{Refusal}
 use Rattle.refusal.specs.declared.Verdict.{Verdict}
 use Rattle.refusal.specs.declared.Verdict.the-variants.{Pass, Fault}
@@ -114,33 +113,25 @@ first-fault rs f x =
     ∙ firstFault-append (x .before) (x .failing ∷ x .after)
     ∙ rw (hold-pass (x .before) (x .hold), judge-fails (x .failing) (x .fails)) (ap Fault (sym (x .gives)))
 
--- where every rule gives the same refusal, that is the fault
-pub same-fault : (rs : List Rule) (f r : Refusal) → Give f rs → firstFault rs ≡ Fault r → r ≡ f
-unfolding firstFault first
-same-fault [] f r g e = fault-pass r (sym e)
-same-fault (q ∷ rs) f r g e = step (q .holds) refl (same-fault rs f r (g .1))
-  where
-    step : (t : Bool) → q .holds ≡ t → (firstFault rs ≡ Fault r → r ≡ f) → r ≡ f
-    step true h rec = rec (rw (judge-holds q h) at e)
-    step false h rec =
-        let x : Fault (refusalOf q) ≡ Fault r = rw (judge-fails q h) at e in
-        let y : refusalOf q ≡ r = cc in
-        sym y ∙ g .0
-
 -- the rules of tables that are joined: of the first
-pub hold-left : (rs ss : List Rule) → Hold (rs ++ ss) → Hold rs
-hold-left [] ss h = tt
-hold-left (r ∷ rs) ss h = (h .0, hold-left rs ss (h .1))
+pub every-left : (P : Rule → Type 0) (rs ss : List Rule) → Every P (rs ++ ss) → Every P rs
+every-left P [] ss h = tt
+every-left P (r ∷ rs) ss h = (h .0, every-left P rs ss (h .1))
 
 -- of the second
-pub hold-right : (rs ss : List Rule) → Hold (rs ++ ss) → Hold ss
-hold-right [] ss h = h
-hold-right (r ∷ rs) ss h = hold-right rs ss (h .1)
+pub every-right : (P : Rule → Type 0) (rs ss : List Rule) → Every P (rs ++ ss) → Every P ss
+every-right P [] ss h = h
+every-right P (r ∷ rs) ss h = every-right P rs ss (h .1)
 
 -- of both
-pub hold-both : (rs ss : List Rule) → Hold rs → Hold ss → Hold (rs ++ ss)
-hold-both [] ss h k = k
-hold-both (r ∷ rs) ss h k = (h .0, hold-both rs ss (h .1) k)
+pub every-both : (P : Rule → Type 0) (rs ss : List Rule) → Every P rs → Every P ss → Every P (rs ++ ss)
+every-both P [] ss h k = k
+every-both P (r ∷ rs) ss h k = (h .0, every-both P rs ss (h .1) k)
+
+-- where every rule gives the same refusal, that is the fault
+pub same-fault : (rs : List Rule) (f r : Refusal) → Give f rs → FirstFailing rs r → r ≡ f
+same-fault rs f r g x =
+    x .gives ∙ every-right (λ q. refusalOf q ≡ f) (x .before) (x .failing ∷ x .after) (subst (Give f) (x .split) g) .0
 
 -- the rules applied one after another say what the table says, after what came before it
 chained-first : (v : Verdict) (rs : List Rule) → chained v rs ≡ first v (firstFault rs)
@@ -156,43 +147,3 @@ by-chain v rs e = e ∙ chained-first v rs
 pub by-table : (rs : List Rule) {r : Verdict} → r ≡ chained Pass rs → r ≡ firstFault rs
 unfolding first
 by-table rs e = e ∙ chained-first Pass rs
-
--- ---- the answer of a table
-
-module _ {Value Answer : Type 0} {value : Value → Answer} {refused : Refusal → Answer} (T : AnswerType value refused) (rs : List Rule) (v : Value) where
-  -- a call answers a value exactly where every rule holds, and then the one that the definition gives
-  pub value-exactly : (w : Value) → (answered value refused (firstFault rs) v ≡ value w) ↔ (Hold rs × (w ≡ v))
-  value-exactly w = (λ e. step (firstFault rs) refl e, λ h. rw (hold-pass rs (h .0)) (ap value (sym (h .1))))
-    where
-      step : (x : Verdict) → firstFault rs ≡ x → answered value refused x v ≡ value w → Hold rs × (w ≡ v)
-      step Pass p e = (pass-hold rs p, sym (T .values e))
-      step (Fault r) p e = absurd (T .apart (sym e))
-
-  -- and a refusal exactly where a rule fails, and then that of the first
-  pub refusal-exactly : (f : Refusal) → (answered value refused (firstFault rs) v ≡ refused f) ↔ FirstFailing rs f
-  refusal-exactly f = (λ e. step (firstFault rs) refl e, λ x. rw (first-fault rs f x))
-    where
-      step : (x : Verdict) → firstFault rs ≡ x → answered value refused x v ≡ refused f → FirstFailing rs f
-      step Pass p e = absurd (T .apart e)
-      step (Fault r) p e = fault-first rs f (p ∙ ap Fault (T .refusals e))
-
-  -- where every rule gives the same refusal, that is the one
-  pub refused-same : (f r : Refusal) → Give f rs → answered value refused (firstFault rs) v ≡ refused r → r ≡ f
-  refused-same f r g e = same-fault rs f r g (first-fault rs r (refusal-exactly r .0 e))
-
--- ---- answers that say exactly whether a value is the one for what was asked
-
-module _ {Value Answer Asked : Type 0} {value : Value → Answer} {refused : Refusal → Answer} (T : AnswerType value refused)
-    (f : Asked → Answer) (Is : Asked → Value → Type 0) (exactly : (x : Asked) (v : Value) → (f x ≡ value v) ↔ Is x v) where
-  -- there is at most one
-  pub exactly-one : (x : Asked) (v w : Value) → Is x v → Is x w → v ≡ w
-  exactly-one x v w p q = T .values (sym (exactly x v .1 p) ∙ exactly x w .1 q)
-
-  -- where only one refusal is given, it is given exactly where there is none
-  pub exactly-none : (r : Refusal) → ((x : Asked) (s : Refusal) → f x ≡ refused s → s ≡ r)
-      → (x : Asked) → (f x ≡ refused r) ↔ ((v : Value) → ¬ Is x v)
-  exactly-none r only x = (λ e v p. T .apart (sym (exactly x v .1 p) ∙ e), λ none. step none (T .cases (f x)))
-    where
-      step : ((v : Value) → ¬ Is x v) → ((v : Value) × (f x ≡ value v)) ⊎ ((s : Refusal) × (f x ≡ refused s)) → f x ≡ refused r
-      step none (inl (v, e)) = absurd (none v (exactly x v .0 e))
-      step none (inr (s, e)) = e ∙ ap refused (only x s e)

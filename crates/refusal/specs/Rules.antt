@@ -1,9 +1,8 @@
--- Tables of rules. A rule is a test, and the refusal that is given where the test fails. The answer of a table is the first
--- rule that fails, in the table's order.
+-- Tables of rules. A rule is a test, and the refusal that is given where the test fails, with its number and place as document 01's
+-- table gives them. What a table says is the first rule that fails, in the table's order.
 -- Assumes nothing.
 use mathlib.Core.Path.{_≡_}
 use mathlib.Core.Bool.{Bool, true, false}
-use mathlib.Core.Logic.{_⊎_}
 use mathlib.Core.List.{List, [], _∷_, _++_}
 use Prim.Native.Nat.{ℕ}
 use Rattle.lists.specs.Choices.{pick}
@@ -39,33 +38,23 @@ unfoldable pub firstFault : List Rule → Verdict
 firstFault [] = Pass
 firstFault (r ∷ rs) = first (judge r) (firstFault rs)
 
--- The answer of a call, for an answer type with one case for a value and one for a refusal: the value where the verdict is a pass,
--- else the refusal with its number and place.
-abbrev pub answered : {Value Answer : Type 0} → (Value → Answer) → (Refusal → Answer) → Verdict → Value → Answer
-answered value refused Pass v = value v
-answered value refused (Fault r) v = refused r
-
--- an answer type: each answer is a value or a refusal and not both, and is told by it
-pub record AnswerType {Value Answer : Type 0} (value : Value → Answer) (refused : Refusal → Answer) : Type 0 where
-  pub cases : (x : Answer) → ((v : Value) × (x ≡ value v)) ⊎ ((r : Refusal) × (x ≡ refused r))
-  pub values : {v w : Value} → value v ≡ value w → v ≡ w
-  pub refusals : {r s : Refusal} → refused r ≡ refused s → r ≡ s
-  pub apart : {v : Value} {r : Refusal} → value v ≡ refused r → ⊥
-
 -- the rules applied one after another to a verdict, as code applies them
 unfoldable pub chained : Verdict → List Rule → Verdict
 chained v [] = v
 chained v (r ∷ rs) = chained (first v (judge r)) rs
 
+-- every rule of a table has a property
+abbrev pub Every : (Rule → Type 0) → List Rule → Type 0
+Every P [] = Unit {0}
+Every P (r ∷ rs) = P r × Every P rs
+
 -- every rule of a table holds
 abbrev pub Hold : List Rule → Type 0
-Hold [] = Unit {0}
-Hold (r ∷ rs) = (r .holds ≡ true) × Hold rs
+Hold rs = Every (λ r. r .holds ≡ true) rs
 
 -- every rule of a table gives the same refusal
 abbrev pub Give : Refusal → List Rule → Type 0
-Give f [] = Unit {0}
-Give f (r ∷ rs) = (refusalOf r ≡ f) × Give f rs
+Give f rs = Every (λ r. refusalOf r ≡ f) rs
 
 -- a table's first rule that fails, with the rules before it, which hold
 pub record FirstFailing (table : List Rule) (refusal : Refusal) : Type 0 where

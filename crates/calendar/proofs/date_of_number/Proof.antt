@@ -6,10 +6,10 @@ use lib.Dec.{leb, leb·zero}
 use lib.IntN.{pos}
 use borrow.Author.Needs.{needs}
 use Rattle.refusal.specs.Rules.{rule, first, firstFault, chained}
+use Rattle.refusal.specs.Answers.{gives}
 use Rattle.refusal.proofs.Tables.{judge-holds, by-table, pass-hold}
 use Rattle.calendar.specs.Dates.{dateRules, dateOf}
 use Rattle.calendar.proofs.Dates.{hold-accepted}
-use Rattle.calendar.specs.declared.DateAnswer.the-variants.{On}
 use Rattle.calendar.proofs.date_of_number.Statement.{statement}
 use Rattle.calendar.proofs.date_of_number.Tie as tie
 
@@ -58,7 +58,7 @@ enum-known-refusal c = search needs
 
 returns : tie.Need-returns
 unfolding dateOf
-returns c = rw (sym (verdict (c .before .before .before)) ∙ c .before .enum-told .given .1) (ap On (c .date-in .ensures))
+returns c = rw (sym (verdict (c .before .before .before)) ∙ c .before .enum-told .given .1) (ap gives (c .date-in .ensures))
 
 returns-2 : tie.Need-returns-2
 unfolding dateOf

@@ -1,0 +1,18 @@
+-- What a call answers, as document 01 has it, "What comes back": a value, or a refusal, which "carries number and place, no value".
+--
+-- In code an answer is an enum. For each such enum a definition gives what each of its cases says, in these terms, and the
+-- contract is that what the call's answer says equals what the call's definition gives.
+-- Assumes nothing.
+use Prim.Native.Nat.{ℕ}
+use Rattle.refusal.specs.declared.Verdict.{Verdict}
+use Rattle.refusal.specs.declared.Verdict.the-variants.{Pass, Fault}
+
+-- a value, or the number and the place of a refusal
+pub data Answer (Value : Type 0) : Type 0 where
+  gives : Value → Answer Value
+  refuses : ℕ → ℕ → Answer Value
+
+-- the answer of a call whose rules come to a verdict: the value where they pass, else the refusal of the first that fails
+abbrev pub answered : {Value : Type 0} → Verdict → Value → Answer Value
+answered Pass v = gives v
+answered (Fault r) v = refuses (r .number) (r .place)
