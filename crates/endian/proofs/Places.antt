@@ -3,7 +3,7 @@
 use mathlib.Core.Path.{_≡_, refl, sym, ap, subst, _∙_}
 use mathlib.Core.Logic.{inl}
 use mathlib.Core.List.{List, [], _∷_, _++_, reverse, reverse-append}
-use Prim.Native.Nat.{ℕ, suc, _+_, _-_, _/_, _%_, _^_, _≤_, _<_}
+use Prim.Native.Nat.{ℕ, suc, _+_, _-_, _*_, _/_, _%_, _^_, _≤_, _<_}
 use native.Mathlib.Nat.{add-zero, div-div-eq-div-mul, lt-of-lt-of-le, pow-le-pow-right, pow-suc}
 use native.Mathlib.Numerals.{add-one}
 use native.Mathlib.Omega.{arith}
@@ -13,12 +13,23 @@ use lib.Seq.{sets, length-sets, drop-drop}
 use Rattle.lists.specs.Lists.{Outside, Apart, part}
 use Rattle.lists.proofs.Parts.{length-part, getD-part, part-suc, part-part, part-left, part-right, part-same, part-agree}
 use Rattle.lists.proofs.Stores.{Where, inside, outside, where-is, sets-outside, sets-inside, part-stored, part-apart, set-sets, sets-append, sets-comm, sets-last}
-use Rattle.endian.specs.Numbers.{digits, position, decode, encode, digitsAt, withByte, numberAt, Bytes}
+use Rattle.endian.specs.Numbers.{value, digits, position, decode, encode, digitsAt, withByte, numberAt, Bytes}
+use Rattle.endian.specs.Words.{wordAt, orderNumber}
 use Rattle.endian.specs.declared.Order.{Order}
 use Rattle.endian.specs.declared.Order.the-variants.{Big, Little}
 use Rattle.endian.proofs.Numbers.{length-ordered, bytes-of, ordered-bytes, digit-at, position-inside, length-digits, digits-more, length-encode, encode-bytes, decode-encode, decode-encode-low, decode-bound, decode-more}
 
 -- ---- a number that is read
+
+four-bytes : (a b c d : ℕ) → decode Big (a ∷ b ∷ c ∷ d ∷ []) ≤ 65535 → decode Little (a ∷ b ∷ c ∷ d ∷ []) ≤ 65535
+    → decode Big (a ∷ b ∷ c ∷ d ∷ []) ≡ 0
+unfolding decode value
+four-bytes a b c d big little =
+    let first : a ≡ 0 = omega (arith, big) in
+    let second : b ≡ 0 = omega (arith, big) in
+    let third : c ≡ 0 = omega (arith, little) in
+    let fourth : d ≡ 0 = omega (arith, little) in
+    rw (first, second, third, fourth)
 
 part-bytes : (at w : ℕ) (f : List ℕ) → Bytes f → Bytes (part at w f)
 part-bytes at w f h =
@@ -75,6 +86,44 @@ number-left o w f g at h = ap (decode o) (part-left at w f g h)
 pub number-right : (o : Order) (w : ℕ) (f g : List ℕ) (at : ℕ) → numberAt o w (f ++ g) (length f + at) ≡ numberAt o w g at
 unfolding numberAt
 number-right o w f g at = ap (decode o) (part-right at w f g)
+
+-- ---- the words of a file
+
+-- the word k is the number of four bytes at byte 4·k
+pub word-number : (o : Order) (f : List ℕ) (k : ℕ) → wordAt o f k ≡ numberAt o 4 f (4 * k)
+unfolding wordAt
+word-number o f k = refl
+
+-- it fits 32 bits
+pub word-fits : (o : Order) (f : List ℕ) (k : ℕ) → Bytes f → wordAt o f k < 2 ^ 32
+unfolding wordAt
+word-fits o f k h = number-bound o 4 f (4 * k) h
+
+-- four bytes that stand for at most 65,535 in either order stand for 0
+pub two-orders : (f : List ℕ) (at : ℕ) → at + 4 ≤ length f → numberAt Big 4 f at ≤ 65535 → numberAt Little 4 f at ≤ 65535 → numberAt Big 4 f at ≡ 0
+unfolding numberAt
+two-orders f at fits = step (part at 4 f) (length-part at 4 f fits)
+  where
+    step : (l : List ℕ) → length l ≡ 4 → decode Big l ≤ 65535 → decode Little l ≤ 65535 → decode Big l ≡ 0
+    step (a ∷ b ∷ c ∷ d ∷ []) e big little = four-bytes a b c d big little
+    step [] e big little = let z : ⊥ = omega arith in absurd z
+    step (a ∷ []) e big little = let z : ⊥ = omega arith in absurd z
+    step (a ∷ b ∷ []) e big little = let z : ⊥ = omega arith in absurd z
+    step (a ∷ b ∷ c ∷ []) e big little = let z : ⊥ = omega arith in absurd z
+    step (a ∷ b ∷ c ∷ d ∷ x ∷ l) e big little = let z : ⊥ = omega arith in absurd z
+
+-- so no word of a file reads as the same small number, other than 0, in both
+pub one-order : (f : List ℕ) (k m n : ℕ) → 4 * k + 4 ≤ length f → wordAt Big f k ≡ m → wordAt Little f k ≡ n → 1 ≤ m → m ≤ 65535 → n ≤ 65535 → ⊥
+unfolding wordAt
+one-order f k m n fits big little low high most =
+    omega (arith, two-orders f (4 * k) fits (rw big high) (rw little most))
+
+-- two orders with one number are the same
+pub order-same : (a b : Order) → orderNumber a ≡ orderNumber b → a ≡ b
+order-same Big Big e = refl
+order-same Big Little e = let z : ⊥ = omega arith in absurd z
+order-same Little Big e = let z : ⊥ = omega arith in absurd z
+order-same Little Little e = refl
 
 -- ---- the digits of a number
 

@@ -11,7 +11,7 @@ use mathlib.Core.List.{List}
 use Prim.Native.Nat.{ℕ, zero, suc, _+_, _-_, _^_, _≤_, _<_, zero-le}
 use native.Mathlib.Nat.{zero-add}
 use native.Mathlib.Omega.{arith}
-use lib.Dec.{T, ltb, leb→le, le→leb}
+use lib.Dec.{T, leb, ltb, leb→le, le→leb}
 use lib.IntN.{ℤ, pos, negsuc, _-ℤ_, natAbs}
 use lib.ListN.{length}
 use lib.Seq.{sets}
@@ -19,10 +19,12 @@ use lib.Signed.{nonNeg, leZ, mag, _≤ℤ_}
 use mir.Syntax.{w32}
 use mir.Val.{Fits, SFits, toZ, ofZ}
 use mir.Facts.{sfits-toZ, fits-ofZ, toZ-pos, toZ-ofZ, ofZ-toZ}
-use borrow.Author.Tests.{ltb-true, ltb-false, le-ltb, le-leb}
+use borrow.Author.Tests.{leb-true, ltb-true, ltb-false, lt-ltb, le-ltb, le-leb}
+use Rattle.lists.specs.Choices.{both}
 use Rattle.lists.specs.Lists.{Apart}
+use Rattle.lists.proofs.Choices.{both-true, true-both}
 use Rattle.endian.specs.Numbers.{decode, encode, numberAt, Bytes}
-use Rattle.endian.specs.Words.{signedAt, encodeSigned}
+use Rattle.endian.specs.Words.{signedAt, encodeSigned, atLeast, AtLeast}
 use Rattle.endian.specs.declared.Order.{Order}
 use Rattle.endian.proofs.Numbers.{decode-encode, encode-decode, decode-bound}
 use Rattle.endian.proofs.Places.{number-bound, read-back, number-frame}
@@ -56,6 +58,18 @@ signed-at-least low n =
     word-cases (λ z. (pos low ≤ℤ z) ↔ ((low ≤ n) × (n < 2 ^ 31))) n
     (λ small. (λ h. (leb→le low n (h .le), small), λ h. record { le = le→leb low n (h .0) }))
     (λ large. (λ h. absurd (not-below low (4294967295 - n) h), λ h. let z : ⊥ = omega arith in absurd z))
+
+-- by its test
+pub at-least : (low n : ℕ) → (atLeast low n ≡ true) ↔ AtLeast low n
+unfolding atLeast
+at-least low n = (
+  λ e.
+    let t : (leb low n ≡ true) × (ltb n 2147483648 ≡ true) = both-true (leb low n) (ltb n 2147483648) e in
+    signed-at-least low n .1 (leb-true low n (t .0), ltb-true n 2147483648 (t .1)),
+  λ h.
+    let x : (low ≤ n) × (n < 2 ^ 31) = signed-at-least low n .0 h in
+    true-both (leb low n) (ltb n 2147483648) (le-leb low n (x .0)) (lt-ltb n 2147483648 (x .1)),
+)
 
 -- from `low` to `high`
 pub signed-within : (low high n : ℕ) → high < 2 ^ 31 → ((pos low ≤ℤ toZ w32 n) × (toZ w32 n ≤ℤ pos high)) ↔ ((low ≤ n) × (n ≤ high))

@@ -3,13 +3,13 @@
 // One definition over order and width, `numberAt`, says what is read, and one encoding, `encode`, what is written. That the
 // code reads the number in either order and at every width rests on one fact, `horner` of proofs/Numbers.antt.
 ghost use mathlib.Core.Path.{_≡_};
-ghost use Prim.Native.Nat.{_+_, _≤_, _<_, _^_};
+ghost use Prim.Native.Nat.{_+_, _*_, _≤_, _<_, _^_};
 ghost use lib.ListN.{length, getD};
 ghost use lib.Seq.{sets};
 ghost use mir.Syntax.{w32};
 ghost use mir.Val.{toZ, ofZ};
 ghost use Rattle.endian.specs.Numbers.{position, digitsAt, numberAt, encode};
-ghost use Rattle.endian.specs.Words.{signedAt, encodeSigned};
+ghost use Rattle.endian.specs.Words.{signedAt, encodeSigned, wordAt, atLeast, orderNumber};
 
 // The byte order of a file: the most significant byte of a number first, or the least significant.
 pub enum Order {
@@ -103,4 +103,30 @@ pub fn write_signed(order: Order, file: &mut [u8], at: usize, v: i32)
     ensures { λ _. ⌜ now (file .exit) ≡ sets (now (file .entry)) at (encodeSigned order v) ⌝ }
 {
     write_number(order, 4, file, at, unsigned(v));
+}
+
+// The raw word k, counted from 0: the unsigned number that its 32 bits are. The caller must make sure that its four bytes are inside the
+// file.
+pub fn read_word(order: Order, file: &[u8], k: usize) -> u32
+    requires { ⌜ 4 * k + 4 ≤ length (now file) ⌝ }
+    ensures { λ r. ⌜ r ≡ wordAt order (now (file .entry)) k ⌝ }
+{
+    read_number(order, 4, file, 4 * k)
+}
+
+// Whether a raw word is, as the signed word that it is, at least `low`. A negative word never is.
+pub fn at_least(low: usize, n: u32) -> bool
+    ensures { λ r. ⌜ r ≡ atLeast low n ⌝ }
+{
+    low <= n as usize && n < 2147483648
+}
+
+// A number for each byte order, by which two orders are compared.
+pub fn order_number(order: Order) -> u32
+    ensures { λ r. ⌜ r ≡ orderNumber order ⌝ }
+{
+    match order {
+        Order::Big => 0,
+        Order::Little => 1,
+    }
 }

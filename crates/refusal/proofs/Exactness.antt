@@ -1,8 +1,8 @@
 -- Tests that say exactly whether a statement holds, put together as the tests of a rule are.
 -- Assumes nothing.
-use mathlib.Core.Path.{_≡_, refl, ap₂}
+use mathlib.Core.Path.{_≡_, refl, sym, ap₂}
 use mathlib.Core.Bool.{Bool, true, false, not, false≢true}
-use mathlib.Core.Logic.{_⊎_, inl, inr, ⊎-elim}
+use mathlib.Core.Logic.{_⊎_, inl, inr, ⊎-elim, _↔_}
 use mathlib.Core.List.{List, [], _∷_, nil≢cons, cons≢nil, head-eq-of-cons-eq, tail-eq-of-cons-eq}
 use Prim.Native.Nat.{ℕ, _≤_, _<_}
 use lib.Dec.{leb, ltb, eqb}
@@ -27,6 +27,20 @@ eq-exactly a b = record { sound = eqb-true a b; complete = eq-eqb a b }
 pub not-exactly : {t : Bool} {P : Type 0} → Exactly t P → Exactly (not t) (¬ P)
 not-exactly {t = true} x = record { sound = λ e. absurd (false≢true e); complete = λ h. absurd (h (x .sound refl)) }
 not-exactly {t = false} x = record { sound = λ e p. false≢true (x .complete p); complete = λ h. refl }
+
+-- a test that is true exactly where a statement holds
+pub iff-exactly : {t : Bool} {P : Type 0} → ((t ≡ true) ↔ P) → Exactly t P
+iff-exactly x = record { sound = x .0; complete = x .1 }
+
+-- the test that is true, of a statement that holds
+pub true-exactly : {P : Type 0} → P → Exactly true P
+true-exactly p = record { sound = λ e. p; complete = λ h. refl }
+
+-- two tests of one statement agree
+pub exactly-same : {t u : Bool} {P : Type 0} → Exactly t P → Exactly u P → t ≡ u
+exactly-same {t = true} {u} x y = sym (y .complete (x .sound refl))
+exactly-same {t = false} {u = true} x y = x .complete (y .sound refl)
+exactly-same {t = false} {u = false} x y = refl
 
 -- two tests
 pub both-exactly : {a b : Bool} {P Q : Type 0} → Exactly a P → Exactly b Q → Exactly (both a b) (P × Q)

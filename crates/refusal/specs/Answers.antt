@@ -16,3 +16,8 @@ pub data Answer (Value : Type 0) : Type 0 where
 abbrev pub answered : {Value : Type 0} → Verdict → Value → Answer Value
 answered Pass v = gives v
 answered (Fault r) v = refuses (r .number) (r .place)
+
+-- the answer with another value made of its value
+abbrev pub mapped : {Value Other : Type 0} → (Value → Other) → Answer Value → Answer Other
+mapped h (gives v) = gives (h v)
+mapped h (refuses n p) = refuses n p

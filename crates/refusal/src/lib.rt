@@ -1,5 +1,6 @@
 // Refusals, the verdict that rules come to, and the tests that rules are made of.
 ghost use mathlib.Core.Path.{_≡_};
+ghost use lib.Dec.{eqb};
 ghost use Rattle.lists.specs.Choices.{both, either};
 ghost use Rattle.refusal.specs.Rules.{rule, judge, first};
 ghost use Rattle.refusal.specs.Tests.{within};
@@ -78,4 +79,11 @@ pub fn or(a: bool, b: bool) -> bool
     ensures { λ r. ⌜ r ≡ either a b ⌝ }
 {
     a || b
+}
+
+// Whether two numbers are equal and a test holds, which has been made when it is called.
+pub fn equal_and(x: u32, y: u32, rest: bool) -> bool
+    ensures { λ r. ⌜ r ≡ both (eqb x y) rest ⌝ }
+{
+    and(x == y, rest)
 }
