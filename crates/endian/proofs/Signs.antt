@@ -20,7 +20,6 @@ use mir.Syntax.{w32}
 use mir.Val.{Fits, SFits, toZ, ofZ}
 use mir.Facts.{sfits-toZ, fits-ofZ, toZ-pos, toZ-ofZ, ofZ-toZ}
 use borrow.Author.Tests.{leb-true, ltb-true, ltb-false, lt-ltb, le-ltb, le-leb}
-use Rattle.lists.specs.Choices.{both}
 use Rattle.lists.specs.Lists.{Apart}
 use Rattle.lists.proofs.Choices.{both-true, true-both}
 use Rattle.endian.specs.Numbers.{decode, encode, numberAt, Bytes}
@@ -64,11 +63,11 @@ pub at-least : (low n : ℕ) → (atLeast low n ≡ true) ↔ AtLeast low n
 unfolding atLeast
 at-least low n = (
   λ e.
-    let t : (leb low n ≡ true) × (ltb n 2147483648 ≡ true) = both-true (leb low n) (ltb n 2147483648) e in
-    signed-at-least low n .1 (leb-true low n (t .0), ltb-true n 2147483648 (t .1)),
+      let t : (leb low n ≡ true) × (ltb n 2147483648 ≡ true) = both-true (leb low n) (ltb n 2147483648) e in
+      signed-at-least low n .1 (leb-true low n (t .0), ltb-true n 2147483648 (t .1)),
   λ h.
-    let x : (low ≤ n) × (n < 2 ^ 31) = signed-at-least low n .0 h in
-    true-both (leb low n) (ltb n 2147483648) (le-leb low n (x .0)) (lt-ltb n 2147483648 (x .1)),
+      let x : (low ≤ n) × (n < 2 ^ 31) = signed-at-least low n .0 h in
+      true-both (leb low n) (ltb n 2147483648) (le-leb low n (x .0)) (lt-ltb n 2147483648 (x .1)),
 )
 
 -- from `low` to `high`

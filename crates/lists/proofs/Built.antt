@@ -3,11 +3,12 @@
 use mathlib.Core.Path.{_≡_, refl, sym, ap, ap₂, _∙_}
 use mathlib.Core.Logic.{⊎-elim}
 use mathlib.Core.List.{List, [], _∷_, _++_}
-use Prim.Native.Nat.{ℕ, zero, suc, _+_, _*_, _≤_, _<_}
-use native.Mathlib.Nat.{zero-mul, mul-one, suc-mul, mul-le-mul-right, eq-or-lt-of-le, le-of-suc-le-suc}
+use Prim.Native.Nat.{ℕ, zero, suc, _+_, _*_, _<_}
+use native.Mathlib.Nat.{zero-mul, mul-one, suc-mul, eq-or-lt-of-le, le-of-suc-le-suc}
 use native.Mathlib.Omega.{arith}
 use lib.ListN.{length, getD, length-append, List·getD-append}
 use lib.Seq.{getD-append-add}
+use Rattle.lists.proofs.Rows.{row-before}
 use Rattle.lists.specs.Lists.{listOf, linesOf}
 
 -- two lists of lines are equal where their lines are
@@ -34,13 +35,9 @@ module _ {A : Type 0} (g : ℕ → List A) (n : ℕ) (all : (k : ℕ) → length
       ∙ getD-append-add (linesOf g k) (g k) i d
       ∙ ap (λ (x : ℕ). getD (g x) i d) (sym e))
       (λ lt.
-      List·getD-append (linesOf g k) (g k) d (j * n + i) (omega (arith, length-linesOf k, suc-mul j n, mul-le-mul-right {m = suc j} {n = k} n lt))
+      List·getD-append (linesOf g k) (g k) d (j * n + i) (omega (arith, length-linesOf k, row-before n j k lt))
       ∙ getD-linesOf k j i d lt m)
       (eq-or-lt-of-le (le-of-suc-le-suc h))
-
--- line k of `count` lines of n elements ends inside what holds them all
-pub line-inside : (k n count room : ℕ) → k < count → count * n ≤ room → k * n + n ≤ room
-line-inside k n count room h r = omega (arith, suc-mul k n, mul-le-mul-right {m = suc k} {n = count} n h)
 
 -- a list by its index is lines of one element each
 listOf-lines : {A : Type 0} (f : ℕ → A) (n : ℕ) → listOf f n ≡ linesOf (λ i. f i ∷ []) n

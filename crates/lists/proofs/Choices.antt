@@ -15,6 +15,11 @@ pub true-both : (a b : Bool) → a ≡ true → b ≡ true → both a b ≡ true
 true-both true b e f = f
 true-both false b e f = e
 
+-- what it says that they do not
+pub both-false : (a b : Bool) → both a b ≡ false → (a ≡ false) ⊎ (b ≡ false)
+both-false true b e = inr e
+both-false false b e = inl refl
+
 -- what it says that one of two tests holds
 pub either-true : (a b : Bool) → either a b ≡ true → (a ≡ true) ⊎ (b ≡ true)
 either-true true b e = inl refl
@@ -31,3 +36,8 @@ module _ {A : Type 0} where
   pub pick-same : (t : Bool) (a b c d : A) → (t ≡ true → a ≡ b) → (t ≡ false → c ≡ d) → pick t a c ≡ pick t b d
   pick-same true a b c d f g = f refl
   pick-same false a b c d f g = g refl
+
+  -- a property of what is picked
+  pub pick-cases : (P : A → Type 0) (t : Bool) (a b : A) → (t ≡ true → P a) → (t ≡ false → P b) → P (pick t a b)
+  pick-cases P true a b f g = f refl
+  pick-cases P false a b f g = g refl

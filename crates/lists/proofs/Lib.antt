@@ -6,3 +6,4 @@ pub mod Built
 pub mod Filled
 pub mod Kept
 pub mod Every
+pub mod Rows

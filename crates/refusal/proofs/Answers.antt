@@ -6,7 +6,7 @@ use mathlib.Core.List.{List}
 use Prim.Native.Nat.{ℕ}
 use native.Mathlib.Omega.{arith}
 use Rattle.refusal.specs.Rules.{Rule, firstFault, Hold, Give, FirstFailing}
-use Rattle.refusal.specs.Answers.{Answer, gives, refuses, answered}
+use Rattle.refusal.specs.Answers.{Answer, gives, refuses, answered, mapped}
 use Rattle.refusal.specs.declared.Refusal.{Refusal}
 use Rattle.refusal.specs.declared.Verdict.{Verdict}
 use Rattle.refusal.specs.declared.Verdict.the-variants.{Pass, Fault}
@@ -34,6 +34,12 @@ module _ {Value : Type 0} where
   pub settled : {Enum : Type 0} (says : Enum → Answer Value) (back : Answer Value → Enum) → ((x : Enum) → back (says x) ≡ x)
       → (x y : Enum) → says x ≡ says y → x ≡ y
   settled says back e x y p = sym (e x) ∙ ap back p ∙ e y
+
+-- an answer with other values made of its values, no two of which become one, gives what the answer gives
+pub mapped-gives : {Value Other : Type 0} (h : Value → Other) → ((v w : Value) → h v ≡ h w → v ≡ w)
+    → (x : Answer Value) (v : Value) → (mapped h x ≡ gives (h v)) ↔ (x ≡ gives v)
+mapped-gives h inject (gives w) v = (λ e. ap gives (inject w v (gives-same e)), λ e. ap (λ u. gives (h u)) (gives-same e))
+mapped-gives h inject (refuses n p) v = (λ e. gives-refuses (sym e), λ e. gives-refuses (sym e))
 
 -- ---- the answer of a table
 

@@ -1,0 +1,202 @@
+-- An AREA file is accepted exactly where every rule holds, and the layout is then the one that its words give.
+-- Assumes nothing.
+use mathlib.Core.Path.{_≡_}
+use mathlib.Core.Bool.{Bool, true, not}
+use mathlib.Core.Logic.{_⊎_, _↔_}
+use mathlib.Core.List.{List}
+use Prim.Native.Nat.{ℕ, _%_, _≤_}
+use lib.Dec.{leb, eqb}
+use lib.ListN.{length}
+use Rattle.endian.specs.Words.{wordAt, atLeast, AtLeast}
+use Rattle.endian.specs.declared.Order.the-variants.{Big, Little}
+use Rattle.endian.proofs.Signs.{at-least}
+use Rattle.lists.specs.Choices.{both, either}
+use Rattle.refusal.specs.Rules.{Hold, FirstFailing}
+use Rattle.refusal.specs.Answers.{gives, refuses}
+use Rattle.refusal.specs.Tests.{Exactly}
+use Rattle.refusal.specs.declared.Refusal.{Refusal}
+use Rattle.refusal.proofs.Answers.{value-exactly, refusal-exactly}
+use Rattle.refusal.proofs.Exactness.{le-exactly, lt-exactly, eq-exactly, not-exactly, iff-exactly, true-exactly, both-exactly, either-exactly, within-exactly}
+use Rattle.area.specs.Rules.{directoryOf, wordIn, readsFour, orderOf, isWidth, fourfold, prefixOf, lineOf, auditEndOf, startFits, countRules, shapeRules, placeRules, describedRules, wordRules, areaRules}
+use Rattle.area.specs.Opening.{layoutOf, openTold, openArea}
+use Rattle.area.specs.Accepts.{IsWidth, StartFits, AcceptsWords, Accepts}
+use Rattle.area.specs.declared.AreaLayout.{AreaLayout}
+
+-- ---- what each test says
+
+width-exactly : (n : ℕ) → Exactly (isWidth n) (IsWidth n)
+width-exactly n = either-exactly (eq-exactly n 1) (either-exactly (eq-exactly n 2) (eq-exactly n 4))
+
+fourfold-exactly : (n : ℕ) → Exactly (fourfold n) (n % 4 ≡ 0)
+fourfold-exactly n = eq-exactly (n % 4) 0
+
+unequal-exactly : (a b : ℕ) → Exactly (not (eqb a b)) (¬ (a ≡ b))
+unequal-exactly a b = not-exactly (eq-exactly a b)
+
+at-least-exactly : (low n : ℕ) → Exactly (atLeast low n) (AtLeast low n)
+at-least-exactly low n = iff-exactly (at-least low n)
+
+start-exactly : (told : ℕ) (W : ℕ → ℕ) (x : ℕ) {unequal : Bool} {Unequal : Type 0} → Exactly unequal Unequal
+    → Exactly (startFits told W x unequal) (StartFits told (W 34) (auditEndOf W) x Unequal)
+start-exactly told W x u =
+    either-exactly (eq-exactly x 0)
+    (both-exactly (at-least-exactly 256 x)
+    (both-exactly (lt-exactly x told) (both-exactly (either-exactly (lt-exactly x (W 34)) (le-exactly (auditEndOf W) x)) u)))
+
+-- ---- the table
+
+module _ (told : ℕ) (W : ℕ → ℕ) where
+  data-exactly : Exactly (both (atLeast 256 (W 34)) (leb (auditEndOf W) told)) (AtLeast 256 (W 34) × (auditEndOf W ≤ told))
+  data-exactly = both-exactly (at-least-exactly 256 (W 34)) (le-exactly (auditEndOf W) told)
+
+  entries-exactly : Exactly (either (not (eqb (W 60) 0)) (eqb (W 61) 0)) ((¬ (W 60 ≡ 0)) ⊎ (W 61 ≡ 0))
+  entries-exactly = either-exactly (unequal-exactly (W 60) 0) (eq-exactly (W 61) 0)
+
+  nav-exactly : Exactly (startFits told W (W 35) true) (StartFits told (W 34) (auditEndOf W) (W 35) (Unit {0}))
+  nav-exactly = start-exactly told W (W 35) (true-exactly tt)
+
+  cal-exactly : Exactly (startFits told W (W 63) (not (eqb (W 63) (W 35)))) (StartFits told (W 34) (auditEndOf W) (W 63) (¬ (W 63 ≡ W 35)))
+  cal-exactly = start-exactly told W (W 63) (unequal-exactly (W 63) (W 35))
+
+  aux-exactly : Exactly (startFits told W (W 60) (both (not (eqb (W 60) (W 35))) (not (eqb (W 60) (W 63)))))
+      (StartFits told (W 34) (auditEndOf W) (W 60) ((¬ (W 60 ≡ W 35)) × (¬ (W 60 ≡ W 63))))
+  aux-exactly = start-exactly told W (W 60) (both-exactly (unequal-exactly (W 60) (W 35)) (unequal-exactly (W 60) (W 63)))
+
+  hold-words : Hold (wordRules told W) → AcceptsWords told W
+  unfolding wordRules describedRules countRules shapeRules placeRules
+  hold-words h =
+      let shape = h .1 .1 .1 .1 .1 .1 .1 .1 .1 in
+      let place = shape .1 .1 .1 .1 .1 .1 in
+      record {
+        w9 = within-exactly 1 65535 (W 9) .sound (h .0);
+        w10 = within-exactly 1 65535 (W 10) .sound (h .1 .0);
+        w11 = width-exactly (W 11) .sound (h .1 .1 .0);
+        w14 = within-exactly 1 64 (W 14) .sound (h .1 .1 .1 .0);
+        w49 = within-exactly 0 65535 (W 49) .sound (h .1 .1 .1 .1 .0);
+        w50 = within-exactly 0 65535 (W 50) .sound (h .1 .1 .1 .1 .1 .0);
+        w51 = within-exactly 0 65535 (W 51) .sound (h .1 .1 .1 .1 .1 .1 .0);
+        w61 = within-exactly 0 65535 (W 61) .sound (h .1 .1 .1 .1 .1 .1 .1 .0);
+        w64 = within-exactly 0 65535 (W 64) .sound (h .1 .1 .1 .1 .1 .1 .1 .1 .0);
+        fourfold49 = fourfold-exactly (W 49) .sound (shape .0);
+        fourfold50 = fourfold-exactly (W 50) .sound (shape .1 .0);
+        fourfold51 = fourfold-exactly (W 51) .sound (shape .1 .1 .0);
+        w15 = eq-exactly (W 15) (prefixOf W) .sound (shape .1 .1 .1 .0);
+        line = fourfold-exactly (lineOf W) .sound (shape .1 .1 .1 .1 .0);
+        entries = entries-exactly .sound (shape .1 .1 .1 .1 .1 .0);
+        w34 = data-exactly .sound (place .0);
+        w35 = nav-exactly .sound (place .1 .0);
+        w63 = cal-exactly .sound (place .1 .1 .0);
+        w60 = aux-exactly .sound (place .1 .1 .1 .0);
+      }
+
+  words-hold : AcceptsWords told W → Hold (wordRules told W)
+  unfolding wordRules describedRules countRules shapeRules placeRules
+  words-hold a = (
+    within-exactly 1 65535 (W 9) .complete (a .w9),
+    (
+      within-exactly 1 65535 (W 10) .complete (a .w10),
+      (
+        width-exactly (W 11) .complete (a .w11),
+        (
+          within-exactly 1 64 (W 14) .complete (a .w14),
+          (
+            within-exactly 0 65535 (W 49) .complete (a .w49),
+            (
+              within-exactly 0 65535 (W 50) .complete (a .w50),
+              (
+                within-exactly 0 65535 (W 51) .complete (a .w51),
+                (
+                  within-exactly 0 65535 (W 61) .complete (a .w61),
+                  (
+                    within-exactly 0 65535 (W 64) .complete (a .w64),
+                    (
+                      fourfold-exactly (W 49) .complete (a .fourfold49),
+                      (
+                        fourfold-exactly (W 50) .complete (a .fourfold50),
+                        (
+                          fourfold-exactly (W 51) .complete (a .fourfold51),
+                          (
+                            eq-exactly (W 15) (prefixOf W) .complete (a .w15),
+                            (
+                              fourfold-exactly (lineOf W) .complete (a .line),
+                              (
+                                entries-exactly .complete (a .entries),
+                                (
+                                  data-exactly .complete (a .w34),
+                                  (
+                                    nav-exactly .complete (a .w35),
+                                    (
+                                      cal-exactly .complete (a .w63),
+                                      (aux-exactly .complete (a .w60), tt),
+                                    ),
+                                  ),
+                                ),
+                              ),
+                            ),
+                          ),
+                        ),
+                      ),
+                    ),
+                  ),
+                ),
+              ),
+            ),
+          ),
+        ),
+      ),
+    ),
+  )
+
+  -- the rules of the words hold exactly where the words are accepted
+  pub words-exactly : Hold (wordRules told W) ↔ AcceptsWords told W
+  words-exactly = (hold-words, words-hold)
+
+-- ---- opening
+
+two-exactly : (d : List ℕ) → Exactly (either (readsFour Big d) (readsFour Little d)) ((wordAt Big d 1 ≡ 4) ⊎ (wordAt Little d 1 ≡ 4))
+two-exactly d = either-exactly (eq-exactly (wordAt Big d 1) 4) (eq-exactly (wordAt Little d 1) 4)
+
+-- all rules hold exactly where they are accepted
+pub rules-exactly : (told : ℕ) (d : List ℕ) → Hold (areaRules told d) ↔ Accepts told d
+unfolding areaRules
+rules-exactly told d =
+    let x = words-exactly told (wordIn (directoryOf (orderOf d) d)) in (
+      λ h.
+          record {
+            long = le-exactly 256 told .sound (h .0);
+            directory = le-exactly 256 (length d) .sound (h .1 .0);
+            w2 = two-exactly d .sound (h .1 .1 .0);
+            words = x .0 (h .1 .1 .1);
+          },
+      λ a. (
+        le-exactly 256 told .complete (a .long),
+        (le-exactly 256 (length d) .complete (a .directory), (two-exactly d .complete (a .w2), x .1 (a .words))),
+      ),
+    )
+
+-- the layout that the bytes d give, which a file of `told` bytes begins with
+abbrev pub layoutTold : ℕ → List ℕ → AreaLayout
+layoutTold told d = layoutOf told (orderOf d) (wordIn (directoryOf (orderOf d) d))
+
+-- a file of which the first bytes are at hand opens exactly where all rules hold, and then to that layout and no other
+pub told-exactly : (told : ℕ) (d : List ℕ) (l : AreaLayout) → (openTold told d ≡ gives l) ↔ (Accepts told d × (l ≡ layoutTold told d))
+unfolding openTold
+told-exactly told d l =
+    let x = value-exactly (areaRules told d) (layoutTold told d) l in
+    let y = rules-exactly told d in
+    (λ e. (y .0 (x .0 e .0), x .0 e .1), λ a. x .1 (y .1 (a .0), a .1))
+
+-- and is refused exactly where a rule fails, by the first that does
+pub told-refused : (told : ℕ) (d : List ℕ) (r : Refusal) → (openTold told d ≡ refuses (r .number) (r .place)) ↔ FirstFailing (areaRules told d) r
+unfolding openTold
+told-refused told d r = refusal-exactly (areaRules told d) (layoutTold told d) r
+
+-- a whole file: accepted exactly where all rules hold
+pub area-exactly : (f : List ℕ) (l : AreaLayout) → (openArea f ≡ gives l) ↔ (Accepts (length f) f × (l ≡ layoutTold (length f) f))
+unfolding openArea
+area-exactly f l = told-exactly (length f) f l
+
+-- and refused exactly where one fails
+pub area-refused : (f : List ℕ) (r : Refusal) → (openArea f ≡ refuses (r .number) (r .place)) ↔ FirstFailing (areaRules (length f) f) r
+unfolding openArea
+area-refused f r = told-refused (length f) f r

@@ -1,0 +1,234 @@
+-- The blocks of an accepted AREA file are inside it, and no two of them share a byte.
+-- Assumes nothing.
+use mathlib.Core.Path.{_≡_, refl, sym}
+use mathlib.Core.Bool.{true, not}
+use mathlib.Core.Logic.{_⊎_, inl, inr, ⊎-elim}
+use mathlib.Core.List.{List, [], _∷_}
+use Prim.Native.Nat.{ℕ, _≤_, _<_}
+use native.Mathlib.Nat.{one-le-mul}
+use native.Mathlib.Omega.{arith}
+use lib.Dec.{ltb, eqb}
+use borrow.Author.Tests.{ltb-true, ltb-false, eqb-false, not-true}
+use Rattle.lists.specs.Choices.{pick, both}
+use Rattle.lists.specs.Lists.{Apart}
+use Rattle.lists.proofs.Choices.{both-true, both-false, pick-cases}
+use Rattle.lists.proofs.Rows.{compared}
+use Rattle.area.specs.Samples.{lineIn, dataEndIn, auditEndIn, sampleAddress, IsSample, Starts, AreaFits}
+use Rattle.area.specs.Blocks.{blockStart, present, nextStart, starts, Among, RunsTo, blockEnd, blockLength}
+use Rattle.area.specs.declared.AreaLayout.{AreaLayout}
+use Rattle.area.specs.declared.Block.{Block}
+use Rattle.area.specs.declared.Block.the-variants.{Dir, Nav, Cal, Aux, Data, Audit}
+use Rattle.area.proofs.Samples.{width-from, sample-data}
+
+-- ---- the next start
+
+module _ (x end : ℕ) where
+  -- it is at most the end
+  pub next-most : (ss : List ℕ) → nextStart x end ss ≤ end
+  unfolding nextStart
+  next-most [] = omega arith
+  next-most (s ∷ ss) =
+      let r : ℕ = nextStart x end ss in
+      pick-cases (λ (n : ℕ). n ≤ end) (both (ltb x s) (ltb s r)) s r
+      (λ e. omega (arith, ltb-true s r (both-true (ltb x s) (ltb s r) e .1), next-most ss)) (λ e. next-most ss)
+
+  -- it is greater than x
+  pub next-after : (ss : List ℕ) → x < end → x < nextStart x end ss
+  unfolding nextStart
+  next-after [] h = h
+  next-after (s ∷ ss) h =
+      let r : ℕ = nextStart x end ss in
+      pick-cases (λ (n : ℕ). x < n) (both (ltb x s) (ltb s r)) s r
+      (λ e. ltb-true x s (both-true (ltb x s) (ltb s r) e .0)) (λ e. next-after ss h)
+
+  -- it is at most every start that is greater than x
+  pub next-least : (ss : List ℕ) (t : ℕ) → Among t ss → x < t → nextStart x end ss ≤ t
+  unfolding nextStart
+  next-least (s ∷ ss) t m h = step (λ rest. next-least ss t rest h)
+    where
+      step : (Among t ss → nextStart x end ss ≤ t) → pick (both (ltb x s) (ltb s (nextStart x end ss))) s (nextStart x end ss) ≤ t
+      step rec =
+          pick-cases (λ (n : ℕ). n ≤ t) (both (ltb x s) (ltb s (nextStart x end ss))) s (nextStart x end ss)
+          (λ e. ⊎-elim (λ same. omega arith)
+          (λ rest. omega (arith, ltb-true s (nextStart x end ss) (both-true (ltb x s) (ltb s (nextStart x end ss)) e .1), rec rest)) m)
+          (λ e. ⊎-elim
+          (λ same. ⊎-elim
+          (λ p. let z : ⊥ = omega (arith, ltb-false x s p, same, h) in absurd z)
+          (λ p. omega (arith, ltb-false s (nextStart x end ss) p, same))
+          (both-false (ltb x s) (ltb s (nextStart x end ss)) e))
+          rec m)
+
+  -- it is the end, or one of the starts that are greater than x
+  pub next-among : (ss : List ℕ) → (nextStart x end ss ≡ end) ⊎ (Among (nextStart x end ss) ss × (x < nextStart x end ss))
+  unfolding nextStart
+  next-among [] = inl refl
+  next-among (s ∷ ss) =
+      let r : ℕ = nextStart x end ss in
+      pick-cases (λ (n : ℕ). (n ≡ end) ⊎ (Among n (s ∷ ss) × (x < n))) (both (ltb x s) (ltb s r)) s r
+      (λ e. inr (inl refl, ltb-true x s (both-true (ltb x s) (ltb s r) e .0)))
+      (λ e. ⊎-elim (λ p. inl p) (λ p. inr (inr (p .0), p .1)) (next-among ss))
+
+-- ---- the end of a block that may be absent, in document 01's words
+
+-- it runs to its end
+pub next-runs : (l : AreaLayout) (x : ℕ) → x < l .length → RunsTo l x (nextStart x (l .length) (starts l))
+next-runs l x h =
+    record {
+      greater = next-after x (l .length) (starts l) h;
+      start = ⊎-elim (λ e. inr e) (λ p. inl (p .0)) (next-among x (l .length) (starts l));
+      next = next-least x (l .length) (starts l);
+      inside = next-most x (l .length) (starts l);
+    }
+
+-- and to no other
+pub runs-only : (l : AreaLayout) (x n m : ℕ) → RunsTo l x n → RunsTo l x m → n ≡ m
+runs-only l x n m p q = omega (arith, at-most n m p q, at-most m n q p)
+  where
+    at-most : (a b : ℕ) → RunsTo l x a → RunsTo l x b → a ≤ b
+    at-most a b r s = ⊎-elim (λ among. r .next b among (s .greater)) (λ e. omega (arith, r .inside, e)) (s .start)
+
+-- ---- blocks that may be absent
+
+-- a NAV, CAL or AUX that is present starts at x
+record Optional (l : AreaLayout) (x : ℕ) : Type 0 where
+  at : Starts l x
+  among : Among x (starts l)
+
+-- where it ends
+abbrev endOf : AreaLayout → ℕ → ℕ
+endOf l x = nextStart x (l .length) (starts l)
+
+module _ (l : AreaLayout) (fits : AreaFits l) where
+  there : (n : ℕ) → not (eqb n 0) ≡ true → ¬ (n ≡ 0)
+  there n e = eqb-false n 0 (not-true (eqb n 0) e)
+
+  nav-optional : present l Nav ≡ true → Optional l (l .nav)
+  nav-optional p = record { at = fits .nav (there (l .nav) p); among = inl refl }
+
+  cal-optional : present l Cal ≡ true → Optional l (l .cal)
+  cal-optional p = record { at = fits .cal (there (l .cal) p); among = inr (inl refl) }
+
+  aux-optional : present l Aux ≡ true → Optional l (l .aux)
+  aux-optional p = record { at = fits .aux (there (l .aux) p); among = inr (inr (inl refl)) }
+
+  -- it ends inside the file, behind its start
+  optional-end : (x : ℕ) → Optional l x → (x < endOf l x) × (endOf l x ≤ l .length)
+  optional-end x o = (next-after x (l .length) (starts l) (o .at .to), next-most x (l .length) (starts l))
+
+  -- it ends before DATA, or starts behind AUDIT
+  optional-data : (x : ℕ) → Optional l x → (endOf l x ≤ l .start) ⊎ (auditEndIn l ≤ x)
+  optional-data x o =
+      ⊎-elim (λ h. inl (next-least x (l .length) (starts l) (l .start) (inr (inr (inr (inl refl)))) h)) (λ h. inr h) (o .at .outside)
+
+  -- of two that start at different places, one ends before the other begins
+  optional-two : (x y : ℕ) → Optional l x → Optional l y → ¬ (x ≡ y) → (endOf l x ≤ y) ⊎ (endOf l y ≤ x)
+  optional-two x y o p differ =
+      ⊎-elim (λ e. absurd (differ e))
+      (⊎-elim (λ h. inl (next-least x (l .length) (starts l) y (p .among) h)) (λ h. inr (next-least y (l .length) (starts l) x (o .among) h)))
+      (compared x y)
+
+  -- ---- all blocks
+
+  -- a line has bytes
+  line-some : 1 ≤ lineIn l
+  line-some =
+      omega (arith, one-le-mul (one-le-mul (fits .bands-from) (fits .elements-from)) (width-from l fits))
+
+  -- a block that is present has bytes, and ends inside the file
+  pub block-inside : (b : Block) → present l b ≡ true → (blockStart l b < blockEnd l b) × (blockEnd l b ≤ l .length)
+  block-inside Dir p = (omega arith, omega (arith, fits .start-from, fits .room))
+  block-inside Nav p = optional-end (l .nav) (nav-optional p)
+  block-inside Cal p = optional-end (l .cal) (cal-optional p)
+  block-inside Aux p = optional-end (l .aux) (aux-optional p)
+  block-inside Data p = (omega (arith, one-le-mul (fits .lines-from) line-some), omega (arith, fits .room))
+  block-inside Audit p = (omega (arith, there (l .cards) p), omega (arith, fits .room))
+
+  -- a block, other than the directory, begins behind it
+  block-from : (b : Block) → present l b ≡ true → ¬ (b ≡ Dir) → 256 ≤ blockStart l b
+  block-from Dir p other = absurd (other refl)
+  block-from Nav p other = nav-optional p .at .from
+  block-from Cal p other = cal-optional p .at .from
+  block-from Aux p other = aux-optional p .at .from
+  block-from Data p other = fits .start-from
+  block-from Audit p other = omega (arith, fits .start-from)
+
+  -- of a block and DATA, one ends before the other begins
+  data-clear : (c : Block) → present l c ≡ true → ¬ (Data ≡ c) → (dataEndIn l ≤ blockStart l c) ⊎ (blockEnd l c ≤ l .start)
+  data-clear Dir q other = inr (fits .start-from)
+  data-clear Nav q other = ⊎-elim (λ h. inr h) (λ h. inl (omega arith)) (optional-data (l .nav) (nav-optional q))
+  data-clear Cal q other = ⊎-elim (λ h. inr h) (λ h. inl (omega arith)) (optional-data (l .cal) (cal-optional q))
+  data-clear Aux q other = ⊎-elim (λ h. inr h) (λ h. inl (omega arith)) (optional-data (l .aux) (aux-optional q))
+  data-clear Data q other = absurd (other refl)
+  data-clear Audit q other = inl (omega arith)
+
+  -- of a block and AUDIT
+  audit-clear : (c : Block) → present l c ≡ true → ¬ (Audit ≡ c) → (auditEndIn l ≤ blockStart l c) ⊎ (blockEnd l c ≤ dataEndIn l)
+  audit-clear Dir q other = inr (omega (arith, fits .start-from))
+  audit-clear Nav q other = ⊎-elim (λ h. inr (omega arith)) (λ h. inl h) (optional-data (l .nav) (nav-optional q))
+  audit-clear Cal q other = ⊎-elim (λ h. inr (omega arith)) (λ h. inl h) (optional-data (l .cal) (cal-optional q))
+  audit-clear Aux q other = ⊎-elim (λ h. inr (omega arith)) (λ h. inl h) (optional-data (l .aux) (aux-optional q))
+  audit-clear Data q other = inr (omega arith)
+  audit-clear Audit q other = absurd (other refl)
+
+  -- a block starts at x, where no other block that may be absent does
+  record Alone (b : Block) (x : ℕ) : Type 0 where
+    nav : present l Nav ≡ true → ¬ (b ≡ Nav) → ¬ (x ≡ l .nav)
+    cal : present l Cal ≡ true → ¬ (b ≡ Cal) → ¬ (x ≡ l .cal)
+    aux : present l Aux ≡ true → ¬ (b ≡ Aux) → ¬ (x ≡ l .aux)
+
+  -- of a block and one that may be absent
+  optional-clear : (b : Block) (x : ℕ) → Optional l x → Alone b x → (c : Block) → present l c ≡ true → ¬ (b ≡ c)
+      → (endOf l x ≤ blockStart l c) ⊎ (blockEnd l c ≤ x)
+  optional-clear b x o alone Dir q other = inr (o .at .from)
+  optional-clear b x o alone Nav q other = optional-two x (l .nav) o (nav-optional q) (alone .nav q other)
+  optional-clear b x o alone Cal q other = optional-two x (l .cal) o (cal-optional q) (alone .cal q other)
+  optional-clear b x o alone Aux q other = optional-two x (l .aux) o (aux-optional q) (alone .aux q other)
+  optional-clear b x o alone Data q other = ⊎-elim (λ h. inl h) (λ h. inr (omega arith)) (optional-data x o)
+  optional-clear b x o alone Audit q other = ⊎-elim (λ h. inl (omega arith)) (λ h. inr h) (optional-data x o)
+
+  nav-alone : Alone Nav (l .nav)
+  nav-alone =
+      record {
+        nav = λ q other. absurd (other refl);
+        cal = λ q other e. fits .cal-nav (there (l .cal) q) (sym e);
+        aux = λ q other e. fits .aux-nav (there (l .aux) q) (sym e);
+      }
+
+  cal-alone : present l Cal ≡ true → Alone Cal (l .cal)
+  cal-alone p =
+      record {
+        nav = λ q other. fits .cal-nav (there (l .cal) p);
+        cal = λ q other. absurd (other refl);
+        aux = λ q other e. fits .aux-cal (there (l .aux) q) (sym e);
+      }
+
+  aux-alone : present l Aux ≡ true → Alone Aux (l .aux)
+  aux-alone p =
+      record {
+        nav = λ q other. fits .aux-nav (there (l .aux) p);
+        cal = λ q other. fits .aux-cal (there (l .aux) p);
+        aux = λ q other. absurd (other refl);
+      }
+
+  -- of two blocks that are present, one ends before the other begins
+  pub blocks-clear : (b c : Block) → present l b ≡ true → present l c ≡ true → ¬ (b ≡ c)
+      → (blockEnd l b ≤ blockStart l c) ⊎ (blockEnd l c ≤ blockStart l b)
+  blocks-clear Dir c p q other = inl (block-from c q (λ e. other (sym e)))
+  blocks-clear Nav c p q other = optional-clear Nav (l .nav) (nav-optional p) nav-alone c q other
+  blocks-clear Cal c p q other = optional-clear Cal (l .cal) (cal-optional p) (cal-alone p) c q other
+  blocks-clear Aux c p q other = optional-clear Aux (l .aux) (aux-optional p) (aux-alone p) c q other
+  blocks-clear Data c p q other = data-clear c q other
+  blocks-clear Audit c p q other = audit-clear c q other
+
+  -- so they share no byte
+  pub blocks-apart : (b c : Block) → present l b ≡ true → present l c ≡ true → ¬ (b ≡ c)
+      → Apart (blockStart l b) (blockLength l b) (blockStart l c) (blockLength l c)
+  blocks-apart b c p q other =
+      ⊎-elim (λ h. inl (omega (arith, block-inside b p))) (λ h. inr (omega (arith, block-inside c q))) (blocks-clear b c p q other)
+
+  -- no sample has a byte of another block than DATA
+  pub sample-block : (i e s : ℕ) → IsSample l i e s → (b : Block) → present l b ≡ true → ¬ (Data ≡ b)
+      → Apart (sampleAddress l i e s) (l .width) (blockStart l b) (blockLength l b)
+  sample-block i e s is b p other =
+      let inside = sample-data l fits i e s is in
+      ⊎-elim (λ h. inl (omega (arith, inside .1))) (λ h. inr (omega (arith, inside .0, block-inside b p))) (data-clear b p other)

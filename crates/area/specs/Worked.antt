@@ -1,0 +1,115 @@
+-- The worked files P and B of document 01. "What isn't given is 0, or what its rule asks."
+-- Assumes nothing.
+use mathlib.Core.Path.{_≡_}
+use mathlib.Core.List.{List, [], _∷_, _++_}
+use mathlib.Core.Bool.{true, false}
+use Prim.Native.Nat.{ℕ, _-_}
+use lib.ListN.{take, replicate}
+use Rattle.endian.specs.Files.{given, bytesOf}
+use Rattle.endian.specs.declared.Order.the-variants.{Big}
+use Rattle.refusal.specs.Answers.{gives, refuses}
+use Rattle.area.specs.Opening.{openArea}
+use Rattle.area.specs.Samples.{sampleAddress}
+use Rattle.area.specs.Blocks.{blockStart, blockLength}
+use Rattle.area.specs.declared.AreaLayout.{AreaLayout}
+use Rattle.area.specs.declared.Block.the-variants.{Nav}
+
+-- word k, counted from 1, is n
+abbrev W : ℕ → ℕ → ℕ × ℕ
+W k n = (k - 1, n)
+
+-- P, with so many bytes after its directory: big, W2 = 4, W9 = 2, W10 = 4, W11 = 1, W14 = 1, W34 = 256
+unfoldable pub fileP : ℕ → List ℕ
+fileP rest = bytesOf Big (given 64 (W 2 4 ∷ W 9 2 ∷ W 10 4 ∷ W 11 1 ∷ W 14 1 ∷ W 34 256 ∷ [])) ++ replicate rest 0
+
+-- P has 264 bytes
+unfoldable pub P : List ℕ
+P = fileP 8
+
+-- B, but for W35 and W15: 520 bytes, big, W2 = 4, W9 = 2, W10 = 3, W11 = 2, W14 = 2, W36 = 1, W49 = 8, W51 = 4, W34 = 384, W64 = 1
+unfoldable pub fileB : ℕ → ℕ → List ℕ
+fileB w35 w15 =
+    bytesOf Big
+    (given 64
+    (W 2 4
+    ∷ W 9 2
+    ∷ W 10 3
+    ∷ W 11 2
+    ∷ W 14 2
+    ∷ W 15 w15
+    ∷ W 34 384
+    ∷ W 35 w35
+    ∷ W 36 1
+    ∷ W 49 8
+    ∷ W 51 4
+    ∷ W 64 1
+    ∷ []))
+    ++ replicate 264 0
+
+-- B has W35 = 256 and W15 = 16
+unfoldable pub B : List ℕ
+B = fileB 256 16
+
+-- their layouts
+unfoldable pub layoutP : AreaLayout
+layoutP =
+    record {
+      order = Big;
+      length = 264;
+      lines = 2;
+      elements = 4;
+      width = 1;
+      bands = 1;
+      prefix = 0;
+      map = 0;
+      map2 = 0;
+      start = 256;
+      nav = 0;
+      documentation = 0;
+      calibration = 0;
+      list = 0;
+      aux = 0;
+      cal = 0;
+      cards = 0;
+      plain = true;
+    }
+
+unfoldable pub layoutB : AreaLayout
+layoutB =
+    record {
+      order = Big;
+      length = 520;
+      lines = 2;
+      elements = 3;
+      width = 2;
+      bands = 2;
+      prefix = 16;
+      map = 0;
+      map2 = 0;
+      start = 384;
+      nav = 256;
+      documentation = 8;
+      calibration = 0;
+      list = 4;
+      aux = 0;
+      cal = 0;
+      cards = 1;
+      plain = false;
+    }
+
+-- what document 01 says of them
+pub record WorkedArea : Type 0 where
+  pub P-opens : openArea P ≡ gives layoutP
+  -- P line 1, element 2, slot 0: byte 262
+  pub P-sample : sampleAddress layoutP 1 2 0 ≡ 262
+  -- P cut to 263 bytes: 5 at 34
+  pub P-cut : openArea (take 263 P) ≡ refuses 5 34
+  pub B-opens : openArea B ≡ gives layoutB
+  -- B line 1, element 2, slot 1: byte 438
+  pub B-sample : sampleAddress layoutB 1 2 1 ≡ 438
+  -- B's NAV: 256, length 128
+  pub B-nav : (blockStart layoutB Nav ≡ 256) × (blockLength layoutB Nav ≡ 128)
+  -- B with W35 = 384: 5 at 35
+  pub B-nav-in-data : openArea (fileB 384 16) ≡ refuses 5 35
+  -- B with W15 = 12: 4 at 15
+  pub B-prefix : openArea (fileB 256 12) ≡ refuses 4 15
