@@ -15,17 +15,16 @@ use Rattle.refusal.specs.Rules.{Hold, FirstFailing}
 use Rattle.refusal.specs.Answers.{gives, refuses}
 use Rattle.refusal.specs.Tests.{Exactly}
 use Rattle.refusal.specs.declared.Refusal.{Refusal}
+use Rattle.refusal.proofs.Tables.{hold-append, also}
 use Rattle.refusal.proofs.Answers.{value-exactly, refusal-exactly}
-use Rattle.refusal.proofs.Exactness.{le-exactly, lt-exactly, eq-exactly, not-exactly, iff-exactly, true-exactly, both-exactly, either-exactly, within-exactly}
-use Rattle.area.specs.Rules.{directoryOf, wordIn, readsFour, orderOf, isWidth, fourfold, prefixOf, lineOf, auditEndOf, startFits, countRules, shapeRules, placeRules, describedRules, wordRules, areaRules}
+use Rattle.refusal.proofs.Exactness.{le-exactly, lt-exactly, eq-exactly, not-exactly, iff-exactly, true-exactly, both-exactly, either-exactly}
+use Rattle.area.specs.Rules.{directoryOf, wordIn, readsFour, orderOf, fourfold, prefixOf, lineOf, auditEndOf, startFits, countRules, shapeRules, placeRules, describedRules, wordRules, areaRules}
 use Rattle.area.specs.Opening.{layoutOf, openTold, openArea}
-use Rattle.area.specs.Accepts.{IsWidth, StartFits, AcceptsWords, Accepts}
+use Rattle.area.specs.Accepts.{StartFits, AcceptsWords, Accepts}
 use Rattle.area.specs.declared.AreaLayout.{AreaLayout}
+use Rattle.area.proofs.Directory.{Counted, counts-exactly}
 
 -- ---- what each test says
-
-width-exactly : (n : ℕ) → Exactly (isWidth n) (IsWidth n)
-width-exactly n = either-exactly (eq-exactly n 1) (either-exactly (eq-exactly n 2) (eq-exactly n 4))
 
 fourfold-exactly : (n : ℕ) → Exactly (fourfold n) (n % 4 ≡ 0)
 fourfold-exactly n = eq-exactly (n % 4) 0
@@ -62,21 +61,19 @@ module _ (told : ℕ) (W : ℕ → ℕ) where
       (StartFits told (W 34) (auditEndOf W) (W 60) ((¬ (W 60 ≡ W 35)) × (¬ (W 60 ≡ W 63))))
   aux-exactly = start-exactly told W (W 60) (both-exactly (unequal-exactly (W 60) (W 35)) (unequal-exactly (W 60) (W 63)))
 
-  hold-words : Hold (wordRules told W) → AcceptsWords told W
-  unfolding wordRules describedRules countRules shapeRules placeRules
-  hold-words h =
-      let shape = h .1 .1 .1 .1 .1 .1 .1 .1 .1 in
-      let place = shape .1 .1 .1 .1 .1 .1 in
+  hold-shapes-places : Counted W → Hold (shapeRules W) → Hold (placeRules told W) → AcceptsWords told W
+  unfolding shapeRules placeRules
+  hold-shapes-places k shape place =
       record {
-        w9 = within-exactly 1 65535 (W 9) .sound (h .0);
-        w10 = within-exactly 1 65535 (W 10) .sound (h .1 .0);
-        w11 = width-exactly (W 11) .sound (h .1 .1 .0);
-        w14 = within-exactly 1 64 (W 14) .sound (h .1 .1 .1 .0);
-        w49 = within-exactly 0 65535 (W 49) .sound (h .1 .1 .1 .1 .0);
-        w50 = within-exactly 0 65535 (W 50) .sound (h .1 .1 .1 .1 .1 .0);
-        w51 = within-exactly 0 65535 (W 51) .sound (h .1 .1 .1 .1 .1 .1 .0);
-        w61 = within-exactly 0 65535 (W 61) .sound (h .1 .1 .1 .1 .1 .1 .1 .0);
-        w64 = within-exactly 0 65535 (W 64) .sound (h .1 .1 .1 .1 .1 .1 .1 .1 .0);
+        w9 = k .w9;
+        w10 = k .w10;
+        w11 = k .w11;
+        w14 = k .w14;
+        w49 = k .w49;
+        w50 = k .w50;
+        w51 = k .w51;
+        w61 = k .w61;
+        w64 = k .w64;
         fourfold49 = fourfold-exactly (W 49) .sound (shape .0);
         fourfold50 = fourfold-exactly (W 50) .sound (shape .1 .0);
         fourfold51 = fourfold-exactly (W 51) .sound (shape .1 .1 .0);
@@ -89,67 +86,42 @@ module _ (told : ℕ) (W : ℕ → ℕ) where
         w60 = aux-exactly .sound (place .1 .1 .1 .0);
       }
 
-  words-hold : AcceptsWords told W → Hold (wordRules told W)
-  unfolding wordRules describedRules countRules shapeRules placeRules
-  words-hold a = (
-    within-exactly 1 65535 (W 9) .complete (a .w9),
-    (
-      within-exactly 1 65535 (W 10) .complete (a .w10),
-      (
-        width-exactly (W 11) .complete (a .w11),
-        (
-          within-exactly 1 64 (W 14) .complete (a .w14),
-          (
-            within-exactly 0 65535 (W 49) .complete (a .w49),
-            (
-              within-exactly 0 65535 (W 50) .complete (a .w50),
-              (
-                within-exactly 0 65535 (W 51) .complete (a .w51),
-                (
-                  within-exactly 0 65535 (W 61) .complete (a .w61),
-                  (
-                    within-exactly 0 65535 (W 64) .complete (a .w64),
-                    (
-                      fourfold-exactly (W 49) .complete (a .fourfold49),
-                      (
-                        fourfold-exactly (W 50) .complete (a .fourfold50),
-                        (
-                          fourfold-exactly (W 51) .complete (a .fourfold51),
-                          (
-                            eq-exactly (W 15) (prefixOf W) .complete (a .w15),
-                            (
-                              fourfold-exactly (lineOf W) .complete (a .line),
-                              (
-                                entries-exactly .complete (a .entries),
-                                (
-                                  data-exactly .complete (a .w34),
-                                  (
-                                    nav-exactly .complete (a .w35),
-                                    (
-                                      cal-exactly .complete (a .w63),
-                                      (aux-exactly .complete (a .w60), tt),
-                                    ),
-                                  ),
-                                ),
-                              ),
-                            ),
-                          ),
-                        ),
-                      ),
-                    ),
-                  ),
-                ),
-              ),
-            ),
-          ),
-        ),
-      ),
-    ),
-  )
+  accepts-counts : AcceptsWords told W → Hold (countRules W)
+  accepts-counts a =
+      counts-exactly W .1
+      (record { w9 = a .w9; w10 = a .w10; w11 = a .w11; w14 = a .w14; w49 = a .w49; w50 = a .w50; w51 = a .w51; w61 = a .w61; w64 = a .w64 })
+
+  accepts-shapes : AcceptsWords told W → Hold (shapeRules W)
+  unfolding shapeRules
+  accepts-shapes a =
+      also (fourfold-exactly (W 49) .complete (a .fourfold49))
+      (also (fourfold-exactly (W 50) .complete (a .fourfold50))
+      (also (fourfold-exactly (W 51) .complete (a .fourfold51))
+      (also (eq-exactly (W 15) (prefixOf W) .complete (a .w15))
+      (also (fourfold-exactly (lineOf W) .complete (a .line))
+      (also (entries-exactly .complete (a .entries))
+      tt)))))
+
+  accepts-places : AcceptsWords told W → Hold (placeRules told W)
+  unfolding placeRules
+  accepts-places a =
+      also (data-exactly .complete (a .w34))
+      (also (nav-exactly .complete (a .w35))
+      (also (cal-exactly .complete (a .w63))
+      (also (aux-exactly .complete (a .w60))
+      tt)))
 
   -- the rules of the words hold exactly where the words are accepted
   pub words-exactly : Hold (wordRules told W) ↔ AcceptsWords told W
-  words-exactly = (hold-words, words-hold)
+  unfolding wordRules describedRules
+  words-exactly =
+      let all = hold-append (describedRules W) (placeRules told W) in
+      let described = hold-append (countRules W) (shapeRules W) in (
+        λ h.
+            let d = described .0 (all .0 h .0) in
+            hold-shapes-places (counts-exactly W .0 (d .0)) (d .1) (all .0 h .1),
+        λ a. all .1 (described .1 (accepts-counts a, accepts-shapes a), accepts-places a),
+      )
 
 -- ---- opening
 

@@ -1,6 +1,6 @@
 -- The blocks of an accepted AREA file are inside it, and no two of them share a byte.
 -- Assumes nothing.
-use mathlib.Core.Path.{_≡_, refl, sym}
+use mathlib.Core.Path.{_≡_, refl, sym, _∙_}
 use mathlib.Core.Bool.{true, not}
 use mathlib.Core.Logic.{_⊎_, inl, inr, ⊎-elim}
 use mathlib.Core.List.{List, [], _∷_}
@@ -9,12 +9,12 @@ use native.Mathlib.Nat.{one-le-mul}
 use native.Mathlib.Omega.{arith}
 use lib.Dec.{ltb, eqb}
 use borrow.Author.Tests.{ltb-true, ltb-false, eqb-false, not-true}
-use Rattle.lists.specs.Choices.{pick, both}
+use Rattle.lists.specs.Choices.{both}
 use Rattle.lists.specs.Lists.{Apart}
 use Rattle.lists.proofs.Choices.{both-true, both-false, pick-cases}
 use Rattle.lists.proofs.Rows.{compared}
 use Rattle.area.specs.Samples.{lineIn, dataEndIn, auditEndIn, sampleAddress, IsSample, Starts, AreaFits}
-use Rattle.area.specs.Blocks.{blockStart, present, nextStart, starts, Among, RunsTo, blockEnd, blockLength}
+use Rattle.area.specs.Blocks.{blockStart, present, nearer, nextStart, starts, Among, RunsTo, blockEnd, blockLength}
 use Rattle.area.specs.declared.AreaLayout.{AreaLayout}
 use Rattle.area.specs.declared.Block.{Block}
 use Rattle.area.specs.declared.Block.the-variants.{Dir, Nav, Cal, Aux, Data, Audit}
@@ -22,51 +22,45 @@ use Rattle.area.proofs.Samples.{width-from, sample-data}
 
 -- ---- the next start
 
+-- which of the two it is
+pub nearer-is : (x s n : ℕ) → ((nearer x s n ≡ s) × ((x < s) × (s < n))) ⊎ ((nearer x s n ≡ n) × ((s ≤ x) ⊎ (n ≤ s)))
+nearer-is x s n =
+    pick-cases (λ (m : ℕ). ((m ≡ s) × ((x < s) × (s < n))) ⊎ ((m ≡ n) × ((s ≤ x) ⊎ (n ≤ s)))) (both (ltb x s) (ltb s n)) s n
+    (λ e. let p = both-true (ltb x s) (ltb s n) e in inl (refl, (ltb-true x s (p .0), ltb-true s n (p .1))))
+    (λ e. inr (refl, ⊎-elim (λ p. inl (ltb-false x s p)) (λ p. inr (ltb-false s n p)) (both-false (ltb x s) (ltb s n) e)))
+
 module _ (x end : ℕ) where
   -- it is at most the end
   pub next-most : (ss : List ℕ) → nextStart x end ss ≤ end
   unfolding nextStart
   next-most [] = omega arith
   next-most (s ∷ ss) =
-      let r : ℕ = nextStart x end ss in
-      pick-cases (λ (n : ℕ). n ≤ end) (both (ltb x s) (ltb s r)) s r
-      (λ e. omega (arith, ltb-true s r (both-true (ltb x s) (ltb s r) e .1), next-most ss)) (λ e. next-most ss)
+      ⊎-elim (λ p. omega (arith, p .0, p .1 .1, next-most ss)) (λ p. omega (arith, p .0, next-most ss)) (nearer-is x s (nextStart x end ss))
 
   -- it is greater than x
   pub next-after : (ss : List ℕ) → x < end → x < nextStart x end ss
   unfolding nextStart
   next-after [] h = h
   next-after (s ∷ ss) h =
-      let r : ℕ = nextStart x end ss in
-      pick-cases (λ (n : ℕ). x < n) (both (ltb x s) (ltb s r)) s r
-      (λ e. ltb-true x s (both-true (ltb x s) (ltb s r) e .0)) (λ e. next-after ss h)
+      ⊎-elim (λ p. omega (arith, p .0, p .1 .0)) (λ p. omega (arith, p .0, next-after ss h)) (nearer-is x s (nextStart x end ss))
 
   -- it is at most every start that is greater than x
   pub next-least : (ss : List ℕ) (t : ℕ) → Among t ss → x < t → nextStart x end ss ≤ t
   unfolding nextStart
-  next-least (s ∷ ss) t m h = step (λ rest. next-least ss t rest h)
-    where
-      step : (Among t ss → nextStart x end ss ≤ t) → pick (both (ltb x s) (ltb s (nextStart x end ss))) s (nextStart x end ss) ≤ t
-      step rec =
-          pick-cases (λ (n : ℕ). n ≤ t) (both (ltb x s) (ltb s (nextStart x end ss))) s (nextStart x end ss)
-          (λ e. ⊎-elim (λ same. omega arith)
-          (λ rest. omega (arith, ltb-true s (nextStart x end ss) (both-true (ltb x s) (ltb s (nextStart x end ss)) e .1), rec rest)) m)
-          (λ e. ⊎-elim
-          (λ same. ⊎-elim
-          (λ p. let z : ⊥ = omega (arith, ltb-false x s p, same, h) in absurd z)
-          (λ p. omega (arith, ltb-false s (nextStart x end ss) p, same))
-          (both-false (ltb x s) (ltb s (nextStart x end ss)) e))
-          rec m)
+  next-least (s ∷ ss) t m h =
+      ⊎-elim
+      (λ p. ⊎-elim (λ same. omega (arith, p .0, same)) (λ rest. omega (arith, p .0, p .1 .1, next-least ss t rest h)) m)
+      (λ p. ⊎-elim (λ same. ⊎-elim (λ q. omega (arith, q, same, h)) (λ q. omega (arith, p .0, q, same)) (p .1))
+      (λ rest. omega (arith, p .0, next-least ss t rest h)) m)
+      (nearer-is x s (nextStart x end ss))
 
   -- it is the end, or one of the starts that are greater than x
   pub next-among : (ss : List ℕ) → (nextStart x end ss ≡ end) ⊎ (Among (nextStart x end ss) ss × (x < nextStart x end ss))
   unfolding nextStart
   next-among [] = inl refl
   next-among (s ∷ ss) =
-      let r : ℕ = nextStart x end ss in
-      pick-cases (λ (n : ℕ). (n ≡ end) ⊎ (Among n (s ∷ ss) × (x < n))) (both (ltb x s) (ltb s r)) s r
-      (λ e. inr (inl refl, ltb-true x s (both-true (ltb x s) (ltb s r) e .0)))
-      (λ e. ⊎-elim (λ p. inl p) (λ p. inr (inr (p .0), p .1)) (next-among ss))
+      ⊎-elim (λ p. inr (inl (p .0), omega (arith, p .0, p .1 .0)))
+      (λ p. ⊎-elim (λ e. inl (p .0 ∙ e)) (λ q. inr (rw (p .0) (inr (q .0), q .1))) (next-among ss)) (nearer-is x s (nextStart x end ss))
 
 -- ---- the end of a block that may be absent, in document 01's words
 

@@ -1,3 +1,5 @@
+pub mod Directory
+pub mod Layouts
 pub mod Acceptance
 pub mod Facts
 pub mod Footprint

@@ -1,5 +1,6 @@
 -- The regions of a line prefix of an accepted AREA file: each is inside the prefix of its line, and no sample has a byte of one.
 -- Assumes nothing.
+use mathlib.Core.Path.{_≡_, refl}
 use mathlib.Core.Logic.{inl, inr, ⊎-elim}
 use Prim.Native.Nat.{ℕ, _+_, _≤_, _<_}
 use native.Mathlib.Omega.{arith}
@@ -28,3 +29,22 @@ module _ (l : AreaLayout) (fits : AreaFits l) where
       → Apart (sampleAddress l i e s) (l .width) (regionStart l k r) (regionLength l r)
   sample-region i e s is k r =
       ⊎-elim (λ h. inl (omega (arith, h))) (λ h. inr (omega (arith, h, region-prefix r))) (sample-prefix l fits i e s is k)
+
+  -- two regions of a prefix share no byte
+  pub regions-apart : (i : ℕ) (r s : Region) → ¬ (r ≡ s) → Apart (regionStart l i r) (regionLength l r) (regionStart l i s) (regionLength l s)
+  regions-apart i Validity Validity other = absurd (other refl)
+  regions-apart i Validity Documentation other = inl (omega arith)
+  regions-apart i Validity Calibration other = inl (omega arith)
+  regions-apart i Validity BandList other = inl (omega arith)
+  regions-apart i Documentation Validity other = inr (omega arith)
+  regions-apart i Documentation Documentation other = absurd (other refl)
+  regions-apart i Documentation Calibration other = inl (omega arith)
+  regions-apart i Documentation BandList other = inl (omega arith)
+  regions-apart i Calibration Validity other = inr (omega arith)
+  regions-apart i Calibration Documentation other = inr (omega arith)
+  regions-apart i Calibration Calibration other = absurd (other refl)
+  regions-apart i Calibration BandList other = inl (omega arith)
+  regions-apart i BandList Validity other = inr (omega arith)
+  regions-apart i BandList Documentation other = inr (omega arith)
+  regions-apart i BandList Calibration other = inr (omega arith)
+  regions-apart i BandList BandList other = absurd (other refl)

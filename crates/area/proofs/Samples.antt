@@ -1,6 +1,6 @@
 -- Samples of an accepted AREA file: each is inside DATA and behind its line's prefix, and two of them share no byte.
 -- Assumes nothing.
-use mathlib.Core.Path.{_≡_, sym, ap, subst, _∙_}
+use mathlib.Core.Path.{_≡_, sym, ap, _∙_}
 use mathlib.Core.Logic.{inl, inr, ⊎-elim}
 use Prim.Native.Nat.{ℕ, _+_, _*_, _/_, _%_, _≤_, _<_}
 use native.Mathlib.Nat.{mul-comm, mul-assoc, add-mul, eq-of-mul-eq-mul-right}
@@ -10,10 +10,15 @@ use Rattle.lists.proofs.Rows.{compared, row-before, row-inside, row-only, multi
 use Rattle.area.specs.Accepts.{IsWidth}
 use Rattle.area.specs.Samples.{lineIn, dataEndIn, lineStart, sampleAddress, IsSample, AreaFits}
 use Rattle.area.specs.declared.AreaLayout.{AreaLayout}
+use Rattle.area.proofs.Directory.{by-width, width-bounds}
 
--- a number of bytes for each width
-by-width : (P : ℕ → Type 0) (w : ℕ) → IsWidth w → P 1 → P 2 → P 4 → P w
-by-width P w h p q r = ⊎-elim (λ e. subst P (sym e) p) (⊎-elim (λ e. subst P (sym e) q) (λ e. subst P (sym e) r)) h
+-- bands are interleaved within each element: the next slot of an element is the next sample of the line
+pub sample-next : (l : AreaLayout) (i e s : ℕ) → sampleAddress l i e (s + 1) ≡ sampleAddress l i e s + l .width
+sample-next l i e s = omega (arith, add-mul (e * l .bands + s) 1 (l .width))
+
+-- and the first slot of the next element comes behind the last
+pub sample-row : (l : AreaLayout) (i e : ℕ) → sampleAddress l i (e + 1) 0 ≡ sampleAddress l i e 0 + l .bands * l .width
+sample-row l i e = omega (arith, add-mul e 1 (l .bands), add-mul (e * l .bands) (l .bands) (l .width))
 
 -- a multiple of four is a multiple of a sample's bytes
 four-width : (n w : ℕ) → IsWidth w → n % 4 ≡ 0 → (j : ℕ) × (n ≡ j * w)
@@ -22,10 +27,10 @@ four-width n w h e = by-width (λ (x : ℕ). (j : ℕ) × (n ≡ j * x)) w h (n,
 module _ (l : AreaLayout) (fits : AreaFits l) where
   -- a sample has 1 to 4 bytes
   pub width-from : 1 ≤ l .width
-  width-from = by-width (λ (x : ℕ). 1 ≤ x) (l .width) (fits .width) (omega arith) (omega arith) (omega arith)
+  width-from = width-bounds (l .width) (fits .width) .0
 
   pub width-to : l .width ≤ 4
-  width-to = by-width (λ (x : ℕ). x ≤ 4) (l .width) (fits .width) (omega arith) (omega arith) (omega arith)
+  width-to = width-bounds (l .width) (fits .width) .1
 
   -- line i ends where the next begins, inside DATA
   pub line-inside : (i : ℕ) → i < l .lines → lineStart l i + lineIn l ≤ dataEndIn l

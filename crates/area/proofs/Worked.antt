@@ -16,11 +16,13 @@ pub worked-area : WorkedArea
 unfolding openArea openTold areaRules wordRules describedRules countRules shapeRules placeRules directoryOf wordIn layoutOf firstFault first judge within atLeast listOf wordAt numberAt decode encode value digits given bytesOf nextStart fileP P fileB B layoutP layoutB
 worked-area =
     record {
+      sizes = (refl, refl);
       P-opens = refl;
       P-sample = refl;
       P-cut = refl;
       B-opens = refl;
       B-sample = refl;
+      B-interleaved = refl;
       B-nav = (refl, refl);
       B-nav-in-data = refl;
       B-prefix = refl;

@@ -13,13 +13,13 @@ use Rattle.area.specs.Rules.{directoryOf, wordIn, orderOf, prefixOf, lin
 abbrev pub IsWidth : ℕ → Type 0
 IsWidth n = (n ≡ 1) ⊎ ((n ≡ 2) ⊎ (n ≡ 4))
 
--- a block may start at x, in a file of `told` bytes with DATA and AUDIT from `start` to `end`: none, or a place as the rule asks; `Unequal` is that it is
--- unequal to an earlier one
+-- a block may start at x, in a file of `told` bytes with DATA and AUDIT from `start` to `end`: none, or a place as the rule asks; `Unequal` is
+-- that it is unequal to an earlier one
 abbrev pub StartFits : ℕ → ℕ → ℕ → ℕ → Type 0 → Type 0
 StartFits told start end x Unequal = (x ≡ 0) ⊎ (AtLeast 256 x × ((x < told) × (((x < start) ⊎ (end ≤ x)) × Unequal)))
 
--- The rules of the words, one field a rule, of a file of `told` bytes. A word with an upper limit below 2 ^ 31, or with a rule, is the signed word; W34, W35, W63 and W60 have
--- no upper limit of their own, and are compared as signed words.
+-- The rules of the words, one field a rule, of a file of `told` bytes. A word with an upper limit below 2 ^ 31, or with a rule, is the signed
+-- word; W34, W35, W63 and W60 have no upper limit of their own, and are compared as signed words.
 pub record AcceptsWords (told : ℕ) (W : ℕ → ℕ) : Type 0 where
   pub w9 : (1 ≤ W 9) × (W 9 ≤ 65535)
   pub w10 : (1 ≤ W 10) × (W 10 ≤ 65535)

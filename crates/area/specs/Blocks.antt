@@ -1,5 +1,5 @@
--- The blocks of an AREA file, and the regions of a line prefix: document 01, "AREA". How far NAV, CAL and AUX run is ruled there: "The directory gives no
--- lengths: each runs to the next greater start among the present NAV, CAL, AUX and DATA, or else to the end of the file."
+-- The blocks of an AREA file, and the regions of a line prefix: document 01, "AREA". How far NAV, CAL and AUX run is ruled there: "The directory
+-- gives no lengths: each runs to the next greater start among the present NAV, CAL, AUX and DATA, or else to the end of the file."
 -- Assumes nothing.
 use mathlib.Core.Path.{_≡_}
 use mathlib.Core.Bool.{Bool, true, not}
@@ -36,10 +36,14 @@ present l Aux = not (eqb (l .aux) 0)
 present l Data = true
 present l Audit = not (eqb (l .cards) 0)
 
+-- the start s where it is greater than x and before n, else n
+abbrev pub nearer : ℕ → ℕ → ℕ → ℕ
+nearer x s n = pick (both (ltb x s) (ltb s n)) s n
+
 -- the least of the starts that are greater than x, or else `end`
 unfoldable pub nextStart : ℕ → ℕ → List ℕ → ℕ
 nextStart x end [] = end
-nextStart x end (s ∷ starts) = pick (both (ltb x s) (ltb s (nextStart x end starts))) s (nextStart x end starts)
+nextStart x end (s ∷ starts) = nearer x s (nextStart x end starts)
 
 -- the starts of NAV, CAL, AUX and DATA; one that is absent, 0, is greater than no start
 abbrev pub starts : AreaLayout → List ℕ

@@ -62,7 +62,7 @@ openArea f = openTold (length f) f
 abbrev pub flagNumber : Bool → ℕ
 flagNumber t = pick t 1 0
 
--- a layout's fields as numbers, and whether two layouts are the same
+-- a layout's fields as numbers
 abbrev pub areaNumbers : AreaLayout → List ℕ
 areaNumbers l =
     orderNumber (l .order)
@@ -85,5 +85,6 @@ areaNumbers l =
     ∷ flagNumber (l .plain)
     ∷ []
 
+-- whether two layouts are the same
 unfoldable pub sameArea : AreaLayout → AreaLayout → Bool
 sameArea a b = sameNumbers (areaNumbers a) (areaNumbers b)

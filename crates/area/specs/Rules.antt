@@ -44,6 +44,7 @@ count W k low high = rule (within low high (W k)) 3 k
 abbrev pub isWidth : ℕ → Bool
 isWidth n = either (eqb n 1) (either (eqb n 2) (eqb n 4))
 
+-- the counts, in document 01's order
 unfoldable pub countRules : (ℕ → ℕ) → List Rule
 countRules W =
     count W 9 1 65535
@@ -63,10 +64,11 @@ countRules W =
 abbrev pub fourfold : ℕ → Bool
 fourfold n = eqb (n % 4) 0
 
--- the prefix length and the line length that the words give
+-- the prefix length that the words give, which W15 must be
 abbrev pub prefixOf : (ℕ → ℕ) → ℕ
 prefixOf W = prefixLength (eqb (W 36) 0) (W 49) (W 50) (W 51)
 
+-- the line length that the words give
 abbrev pub lineOf : (ℕ → ℕ) → ℕ
 lineOf W = lineLength (W 15) (W 14) (W 10) (W 11)
 
@@ -91,8 +93,8 @@ auditEndOf W = auditEnd (W 34) (W 9) (lineOf W) (W 64)
 abbrev pub outsideData : (ℕ → ℕ) → ℕ → Bool
 outsideData W x = either (ltb x (W 34)) (leb (auditEndOf W) x)
 
--- a block may start at x: "each 0, or at least 256, before the end of the file, not inside DATA or AUDIT, and unequal to an earlier one"; `unequal` is
--- whether it is
+-- a block may start at x: "each 0, or at least 256, before the end of the file, not inside DATA or AUDIT, and unequal to an earlier one";
+-- `unequal` is whether it is
 abbrev pub startFits : ℕ → (ℕ → ℕ) → ℕ → Bool → Bool
 startFits told W x unequal = either (eqb x 0) (both (atLeast 256 x) (both (ltb x told) (both (outsideData W x) unequal)))
 

@@ -14,10 +14,11 @@ use Rattle.area.specs.declared.AreaLayout.{AreaLayout}
 abbrev pub lineIn : AreaLayout → ℕ
 lineIn l = lineLength (l .prefix) (l .bands) (l .elements) (l .width)
 
--- the byte after DATA, and the byte after AUDIT
+-- the byte after DATA
 abbrev pub dataEndIn : AreaLayout → ℕ
 dataEndIn l = dataEnd (l .start) (l .lines) (lineIn l)
 
+-- the byte after AUDIT
 abbrev pub auditEndIn : AreaLayout → ℕ
 auditEndIn l = auditEnd (l .start) (l .lines) (lineIn l) (l .cards)
 

@@ -4,7 +4,7 @@ use mathlib.Core.Path.{_≡_}
 use mathlib.Core.List.{List, [], _∷_, _++_}
 use mathlib.Core.Bool.{true, false}
 use Prim.Native.Nat.{ℕ, _-_}
-use lib.ListN.{take, replicate}
+use lib.ListN.{length, take, replicate}
 use Rattle.endian.specs.Files.{given, bytesOf}
 use Rattle.endian.specs.declared.Order.the-variants.{Big}
 use Rattle.refusal.specs.Answers.{gives, refuses}
@@ -50,7 +50,7 @@ fileB w35 w15 =
 unfoldable pub B : List ℕ
 B = fileB 256 16
 
--- their layouts
+-- the layout of P
 unfoldable pub layoutP : AreaLayout
 layoutP =
     record {
@@ -74,6 +74,7 @@ layoutP =
       plain = true;
     }
 
+-- the layout of B
 unfoldable pub layoutB : AreaLayout
 layoutB =
     record {
@@ -99,6 +100,7 @@ layoutB =
 
 -- what document 01 says of them
 pub record WorkedArea : Type 0 where
+  pub sizes : (length P ≡ 264) × (length B ≡ 520)
   pub P-opens : openArea P ≡ gives layoutP
   -- P line 1, element 2, slot 0: byte 262
   pub P-sample : sampleAddress layoutP 1 2 0 ≡ 262
@@ -107,6 +109,8 @@ pub record WorkedArea : Type 0 where
   pub B-opens : openArea B ≡ gives layoutB
   -- B line 1, element 2, slot 1: byte 438
   pub B-sample : sampleAddress layoutB 1 2 1 ≡ 438
+  -- bands are interleaved: element 1 of slot 0 comes behind both slots of element 0
+  pub B-interleaved : sampleAddress layoutB 0 1 0 ≡ 404
   -- B's NAV: 256, length 128
   pub B-nav : (blockStart layoutB Nav ≡ 256) × (blockLength layoutB Nav ≡ 128)
   -- B with W35 = 384: 5 at 35

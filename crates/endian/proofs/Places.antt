@@ -1,7 +1,7 @@
 -- Laws of a number at a place of a file, and of a number that is written there, each over the order and the width.
 -- Assumes nothing.
 use mathlib.Core.Path.{_≡_, refl, sym, ap, subst, _∙_}
-use mathlib.Core.Logic.{inl}
+use mathlib.Core.Logic.{inl, inr, ⊎-elim}
 use mathlib.Core.List.{List, [], _∷_, _++_, reverse, reverse-append}
 use Prim.Native.Nat.{ℕ, suc, _+_, _-_, _*_, _/_, _%_, _^_, _≤_, _<_}
 use native.Mathlib.Nat.{add-zero, div-div-eq-div-mul, lt-of-lt-of-le, pow-le-pow-right, pow-suc}
@@ -13,6 +13,7 @@ use lib.Seq.{sets, length-sets, drop-drop}
 use Rattle.lists.specs.Lists.{Outside, Apart, part}
 use Rattle.lists.proofs.Parts.{length-part, getD-part, part-suc, part-part, part-left, part-right, part-same, part-agree}
 use Rattle.lists.proofs.Stores.{Where, inside, outside, where-is, sets-outside, sets-inside, part-stored, part-apart, set-sets, sets-append, sets-comm, sets-last}
+use Rattle.lists.proofs.Rows.{compared}
 use Rattle.endian.specs.Numbers.{value, digits, position, decode, encode, digitsAt, withByte, numberAt, Bytes}
 use Rattle.endian.specs.Words.{wordAt, orderNumber}
 use Rattle.endian.specs.declared.Order.{Order}
@@ -98,6 +99,11 @@ word-number o f k = refl
 pub word-fits : (o : Order) (f : List ℕ) (k : ℕ) → Bytes f → wordAt o f k < 2 ^ 32
 unfolding wordAt
 word-fits o f k h = number-bound o 4 f (4 * k) h
+
+-- two words that are not the same share no byte
+pub words-apart : (k m : ℕ) → ¬ (k ≡ m) → Apart (4 * k) 4 (4 * m) 4
+words-apart k m other =
+    ⊎-elim (λ e. absurd (other e)) (⊎-elim (λ l. inl (omega arith)) (λ l. inr (omega arith))) (compared k m)
 
 -- four bytes that stand for at most 65,535 in either order stand for 0
 pub two-orders : (f : List ℕ) (at : ℕ) → at + 4 ≤ length f → numberAt Big 4 f at ≤ 65535 → numberAt Little 4 f at ≤ 65535 → numberAt Big 4 f at ≡ 0

@@ -1,6 +1,6 @@
 -- Tests that say exactly whether a statement holds, put together as the tests of a rule are.
 -- Assumes nothing.
-use mathlib.Core.Path.{_≡_, refl, sym, ap₂}
+use mathlib.Core.Path.{_≡_, refl, sym, ap, ap₂}
 use mathlib.Core.Bool.{Bool, true, false, not, false≢true}
 use mathlib.Core.Logic.{_⊎_, inl, inr, ⊎-elim, _↔_}
 use mathlib.Core.List.{List, [], _∷_, nil≢cons, cons≢nil, head-eq-of-cons-eq, tail-eq-of-cons-eq}
@@ -75,3 +75,10 @@ numbers-exactly (x ∷ xs) (y ∷ ys) =
       sound = λ e. ap₂ _∷_ (h .sound e .0) (h .sound e .1);
       complete = λ e. h .complete (head-eq-of-cons-eq e, tail-eq-of-cons-eq e);
     }
+
+-- so are values that are settled by their lists of numbers
+pub by-numbers : {Value : Type 0} (numbers : Value → List ℕ) → ((a b : Value) → numbers a ≡ numbers b → a ≡ b)
+    → (a b : Value) → Exactly (sameNumbers (numbers a) (numbers b)) (a ≡ b)
+by-numbers numbers settle a b =
+    let x : Exactly (sameNumbers (numbers a) (numbers b)) (numbers a ≡ numbers b) = numbers-exactly (numbers a) (numbers b) in
+    record { sound = λ e. settle a b (x .sound e); complete = λ e. x .complete (ap numbers e) }

@@ -2,6 +2,7 @@
 -- Assumes nothing.
 use mathlib.Core.Path.{_≡_, refl, sym, ap, subst, _∙_}
 use mathlib.Core.Bool.{Bool, true, false}
+use mathlib.Core.Logic.{_↔_}
 use mathlib.Core.List.{List, [], _∷_, _++_}
 use Prim.Native.Nat.{ℕ}
 use native.Mathlib.Omega.{arith}
@@ -83,6 +84,24 @@ firstFault-append [] ss = refl
 firstFault-append (r ∷ rs) ss =
     ap (first (judge r)) (firstFault-append rs ss) ∙ sym (first-assoc (judge r) (firstFault rs) (firstFault ss))
 
+-- where the first of them comes to a verdict
+pub joined : (rs ss : List Rule) (v : Verdict) → firstFault rs ≡ v → firstFault (rs ++ ss) ≡ first v (firstFault ss)
+joined rs ss v e = firstFault-append rs ss ∙ ap (λ (x : Verdict). first x (firstFault ss)) e
+
+-- a fault of the first is that of both together
+pub fault-joined : (rs ss : List Rule) (f : Refusal) → firstFault rs ≡ Fault f → Fault f ≡ firstFault (rs ++ ss)
+unfolding first
+fault-joined rs ss f e = sym (joined rs ss (Fault f) e)
+
+-- where the first passes, the second decides
+pub pass-joined : (rs ss : List Rule) → firstFault rs ≡ Pass → firstFault ss ≡ firstFault (rs ++ ss)
+unfolding first
+pass-joined rs ss e = sym (joined rs ss Pass e)
+
+-- where both together pass, each does
+pub joined-pass : (rs ss : List Rule) → firstFault (rs ++ ss) ≡ Pass → (firstFault rs ≡ Pass) × (firstFault ss ≡ Pass)
+joined-pass rs ss e = both-pass (firstFault rs) (firstFault ss) (sym (firstFault-append rs ss) ∙ e)
+
 -- a table's fault is the refusal of its first rule that fails
 pub fault-first : (rs : List Rule) (f : Refusal) → firstFault rs ≡ Fault f → FirstFailing rs f
 unfolding firstFault first
@@ -127,6 +146,17 @@ every-right P (r ∷ rs) ss h = every-right P rs ss (h .1)
 pub every-both : (P : Rule → Type 0) (rs ss : List Rule) → Every P rs → Every P ss → Every P (rs ++ ss)
 every-both P [] ss h k = k
 every-both P (r ∷ rs) ss h k = (h .0, every-both P rs ss (h .1) k)
+
+-- tables that are joined hold exactly where both hold
+pub hold-append : (rs ss : List Rule) → Hold (rs ++ ss) ↔ (Hold rs × Hold ss)
+hold-append rs ss = (
+  λ h. (every-left (λ r. r .holds ≡ true) rs ss h, every-right (λ r. r .holds ≡ true) rs ss h),
+  λ h. every-both (λ r. r .holds ≡ true) rs ss (h .0) (h .1),
+)
+
+-- a rule that holds, and the rules after it
+pub also : {P Q : Type 0} → P → Q → P × Q
+also p q = (p, q)
 
 -- where every rule gives the same refusal, that is the fault
 pub same-fault : (rs : List Rule) (f r : Refusal) → Give f rs → FirstFailing rs r → r ≡ f

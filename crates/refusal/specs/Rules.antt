@@ -38,6 +38,11 @@ unfoldable pub firstFault : List Rule → Verdict
 firstFault [] = Pass
 firstFault (r ∷ rs) = first (judge r) (firstFault rs)
 
+-- the numbers and places of a table, in its order
+unfoldable pub tabled : List Rule → List (ℕ × ℕ)
+tabled [] = []
+tabled (r ∷ rs) = (r .number, r .place) ∷ tabled rs
+
 -- the rules applied one after another to a verdict, as code applies them
 unfoldable pub chained : Verdict → List Rule → Verdict
 chained v [] = v

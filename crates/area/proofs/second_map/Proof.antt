@@ -1,0 +1,14 @@
+-- `area::second_map` meets its contract: the test of the code is that of the definition.
+-- Assumes nothing.
+use borrow.Author.Tests.{le-leb, lt-leb}
+use Rattle.area.proofs.second_map.Statement.{statement}
+use Rattle.area.proofs.second_map.Tie as tie
+
+returns : tie.Need-returns
+returns c = rw (le-leb _ _ (c .if1 .taken))
+
+returns-2 : tie.Need-returns-2
+returns-2 c = rw (lt-leb _ _ (c .if1 .left))
+
+pub second-map-spec : {M : Type 1} → statement M
+second-map-spec = tie.close (tie.spec returns returns-2)

@@ -1,0 +1,3 @@
+pub mod Points
+pub mod Facts
+pub mod Worked

@@ -1,0 +1,200 @@
+// A layout of any kind: opening a file by its kind, whether a layout is stale, and the layout of one kind that a call asks for.
+use area::AreaLayout;
+use area::AreaOpening;
+use area::same_area;
+use endian::Order;
+use grid_rules::GridLayout;
+use grid_rules::GridOpening;
+use grid_rules::same_grid;
+use md::MdLayout;
+use md::MdOpening;
+use md::same_md;
+use refusal::NO_SUCH;
+use refusal::Refusal;
+use refusal::STALE;
+ghost use mathlib.Core.Path.{_≡_};
+ghost use Rattle.refusal.specs.Answers.{gives, mapped};
+ghost use Rattle.refusal.specs.Tests.{Exactly};
+ghost use Rattle.area.specs.Opening.{areaSays, openArea};
+ghost use Rattle.grid_rules.specs.Opening.{gridSays, openGrid};
+ghost use Rattle.md.specs.Opening.{mdSays, openMd};
+ghost use Rattle.layout.specs.Layouts.{openingSays, reopened, givesThat};
+ghost use Rattle.layout.specs.Found.{asArea, asGrid, asMd, areaOf, gridOf, mdOf};
+
+// What opening a file finds, of any of the three kinds. "Layout" is document 01's term. A caller can make one up: nothing is known of its fields
+// until it is found to be the one that opening the file gives.
+pub enum Layout {
+    Area(AreaLayout),
+    Grid(GridLayout),
+    Md(MdLayout),
+}
+
+// What opening a file answers: its layout, or a refusal.
+pub enum Opening {
+    Opened(Layout),
+    Refused(Refusal),
+}
+
+// Opens an AREA file, which finds its byte order by itself. Refused as `area::open`.
+pub fn open_area(file: &[u8]) -> Opening
+    ensures { λ r. ⌜ openingSays r ≡ mapped Layout.Area (openArea (now (file .entry))) ⌝ }
+{
+    match area::open(file) {
+        AreaOpening::Opened(layout) => Opening::Opened(Layout::Area(layout)),
+        AreaOpening::Refused(refusal) => Opening::Refused(refusal),
+    }
+}
+
+// Opens the grid of a number in a GRID file. Refused as `grid::open`.
+pub fn open_grid(file: &[u8], order: Order, number: u32) -> Opening
+    ensures { λ r. ⌜ openingSays r ≡ mapped Layout.Grid (openGrid order (now (file .entry)) number) ⌝ }
+{
+    match grid::open(file, order, number) {
+        GridOpening::Opened(layout) => Opening::Opened(Layout::Grid(layout)),
+        GridOpening::Refused(refusal) => Opening::Refused(refusal),
+    }
+}
+
+// Opens an MD file. Refused as `md::open`.
+pub fn open_md(file: &[u8], order: Order) -> Opening
+    ensures { λ r. ⌜ openingSays r ≡ mapped Layout.Md (openMd order (now (file .entry))) ⌝ }
+{
+    match md::open(file, order) {
+        MdOpening::Opened(layout) => Opening::Opened(Layout::Md(layout)),
+        MdOpening::Refused(refusal) => Opening::Refused(refusal),
+    }
+}
+
+// Whether an AREA opening gave a layout.
+fn is_area(opening: AreaOpening, layout: AreaLayout) -> bool
+    ensures { λ r. ⌜ r ≡ givesThat (Layout.Area layout) (mapped Layout.Area (areaSays opening)) ⌝ }
+{
+    match opening {
+        AreaOpening::Opened(found) => same_area(found, layout),
+        AreaOpening::Refused(_) => false,
+    }
+}
+
+// Whether a GRID opening gave a layout.
+fn is_grid(opening: GridOpening, layout: GridLayout) -> bool
+    ensures { λ r. ⌜ r ≡ givesThat (Layout.Grid layout) (mapped Layout.Grid (gridSays opening)) ⌝ }
+{
+    match opening {
+        GridOpening::Opened(found) => same_grid(found, layout),
+        GridOpening::Refused(_) => false,
+    }
+}
+
+// Whether an MD opening gave a layout.
+fn is_md(opening: MdOpening, layout: MdLayout) -> bool
+    ensures { λ r. ⌜ r ≡ givesThat (Layout.Md layout) (mapped Layout.Md (mdSays opening)) ⌝ }
+{
+    match opening {
+        MdOpening::Opened(found) => same_md(found, layout),
+        MdOpening::Refused(_) => false,
+    }
+}
+
+// Whether opening these bytes by the layout's own kind, byte order and grid number gives that very layout, in every field, the file's length
+// too. A layout of which this is false is stale. Nothing is computed from a layout's fields before this.
+pub fn is_fresh(file: &[u8], layout: Layout) -> bool
+    ensures { λ r. ⌜ Exactly r (reopened (now (file .entry)) layout ≡ gives layout) ⌝ }
+{
+    match layout {
+        Layout::Area(l) => is_area(area::open(file), l),
+        Layout::Grid(l) => {
+            let order = l.order;
+            is_grid(grid::open(file, order, l.number), l)
+        }
+        Layout::Md(l) => {
+            let order = l.order;
+            is_md(md::open(file, order), l)
+        }
+    }
+}
+
+// Refusal 7 at place 0: the layout is of another kind.
+fn another_kind() -> Refusal
+    ensures { λ r. ⌜ r ≡ record { number = 7; place = 0 } ⌝ }
+{
+    Refusal {
+        number: NO_SUCH,
+        place: 0,
+    }
+}
+
+// Refusal 9 at place 0: the layout is stale.
+fn stale() -> Refusal
+    ensures { λ r. ⌜ r ≡ record { number = 9; place = 0 } ⌝ }
+{
+    Refusal {
+        number: STALE,
+        place: 0,
+    }
+}
+
+// A layout as an AREA layout, or refusal 7.
+fn as_area(layout: Layout) -> AreaOpening
+    ensures { λ r. ⌜ areaSays r ≡ asArea layout ⌝ }
+{
+    match layout {
+        Layout::Area(l) => AreaOpening::Opened(l),
+        Layout::Grid(_) => AreaOpening::Refused(another_kind()),
+        Layout::Md(_) => AreaOpening::Refused(another_kind()),
+    }
+}
+
+// The AREA layout that a call asks for. Refused with 9 where the layout is stale, and then with 7 where it is of another kind.
+pub fn area_of(file: &[u8], layout: Layout) -> AreaOpening
+    ensures { λ r. ⌜ areaSays r ≡ areaOf (now (file .entry)) layout ⌝ }
+{
+    if is_fresh(file, layout) {
+        as_area(layout)
+    } else {
+        AreaOpening::Refused(stale())
+    }
+}
+
+// A layout as a GRID layout, or refusal 7.
+fn as_grid(layout: Layout) -> GridOpening
+    ensures { λ r. ⌜ gridSays r ≡ asGrid layout ⌝ }
+{
+    match layout {
+        Layout::Area(_) => GridOpening::Refused(another_kind()),
+        Layout::Grid(l) => GridOpening::Opened(l),
+        Layout::Md(_) => GridOpening::Refused(another_kind()),
+    }
+}
+
+// The GRID layout that a call asks for. Refused with 9 where the layout is stale, and then with 7 where it is of another kind.
+pub fn grid_of(file: &[u8], layout: Layout) -> GridOpening
+    ensures { λ r. ⌜ gridSays r ≡ gridOf (now (file .entry)) layout ⌝ }
+{
+    if is_fresh(file, layout) {
+        as_grid(layout)
+    } else {
+        GridOpening::Refused(stale())
+    }
+}
+
+// A layout as an MD layout, or refusal 7.
+fn as_md(layout: Layout) -> MdOpening
+    ensures { λ r. ⌜ mdSays r ≡ asMd layout ⌝ }
+{
+    match layout {
+        Layout::Area(_) => MdOpening::Refused(another_kind()),
+        Layout::Grid(_) => MdOpening::Refused(another_kind()),
+        Layout::Md(l) => MdOpening::Opened(l),
+    }
+}
+
+// The MD layout that a call asks for. Refused with 9 where the layout is stale, and then with 7 where it is of another kind.
+pub fn md_of(file: &[u8], layout: Layout) -> MdOpening
+    ensures { λ r. ⌜ mdSays r ≡ mdOf (now (file .entry)) layout ⌝ }
+{
+    if is_fresh(file, layout) {
+        as_md(layout)
+    } else {
+        MdOpening::Refused(stale())
+    }
+}

@@ -1,0 +1,5 @@
+pub mod Rules
+pub mod Opening
+pub mod Accepts
+pub mod Fields
+pub mod Worked
