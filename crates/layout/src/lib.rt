@@ -113,22 +113,12 @@ pub fn is_fresh(file: &[u8], layout: Layout) -> bool
     }
 }
 
-// Refusal 7 at place 0: the layout is of another kind.
-fn another_kind() -> Refusal
-    ensures { λ r. ⌜ r ≡ record { number = 7; place = 0 } ⌝ }
+// A refusal at place 0.
+fn refused(number: u32) -> Refusal
+    ensures { λ r. ⌜ r ≡ record { number = number; place = 0 } ⌝ }
 {
     Refusal {
-        number: NO_SUCH,
-        place: 0,
-    }
-}
-
-// Refusal 9 at place 0: the layout is stale.
-fn stale() -> Refusal
-    ensures { λ r. ⌜ r ≡ record { number = 9; place = 0 } ⌝ }
-{
-    Refusal {
-        number: STALE,
+        number: number,
         place: 0,
     }
 }
@@ -139,8 +129,8 @@ fn as_area(layout: Layout) -> AreaOpening
 {
     match layout {
         Layout::Area(l) => AreaOpening::Opened(l),
-        Layout::Grid(_) => AreaOpening::Refused(another_kind()),
-        Layout::Md(_) => AreaOpening::Refused(another_kind()),
+        Layout::Grid(_) => AreaOpening::Refused(refused(NO_SUCH)),
+        Layout::Md(_) => AreaOpening::Refused(refused(NO_SUCH)),
     }
 }
 
@@ -151,7 +141,7 @@ pub fn area_of(file: &[u8], layout: Layout) -> AreaOpening
     if is_fresh(file, layout) {
         as_area(layout)
     } else {
-        AreaOpening::Refused(stale())
+        AreaOpening::Refused(refused(STALE))
     }
 }
 
@@ -160,9 +150,9 @@ fn as_grid(layout: Layout) -> GridOpening
     ensures { λ r. ⌜ gridSays r ≡ asGrid layout ⌝ }
 {
     match layout {
-        Layout::Area(_) => GridOpening::Refused(another_kind()),
+        Layout::Area(_) => GridOpening::Refused(refused(NO_SUCH)),
         Layout::Grid(l) => GridOpening::Opened(l),
-        Layout::Md(_) => GridOpening::Refused(another_kind()),
+        Layout::Md(_) => GridOpening::Refused(refused(NO_SUCH)),
     }
 }
 
@@ -173,7 +163,7 @@ pub fn grid_of(file: &[u8], layout: Layout) -> GridOpening
     if is_fresh(file, layout) {
         as_grid(layout)
     } else {
-        GridOpening::Refused(stale())
+        GridOpening::Refused(refused(STALE))
     }
 }
 
@@ -182,8 +172,8 @@ fn as_md(layout: Layout) -> MdOpening
     ensures { λ r. ⌜ mdSays r ≡ asMd layout ⌝ }
 {
     match layout {
-        Layout::Area(_) => MdOpening::Refused(another_kind()),
-        Layout::Grid(_) => MdOpening::Refused(another_kind()),
+        Layout::Area(_) => MdOpening::Refused(refused(NO_SUCH)),
+        Layout::Grid(_) => MdOpening::Refused(refused(NO_SUCH)),
         Layout::Md(l) => MdOpening::Opened(l),
     }
 }
@@ -195,6 +185,6 @@ pub fn md_of(file: &[u8], layout: Layout) -> MdOpening
     if is_fresh(file, layout) {
         as_md(layout)
     } else {
-        MdOpening::Refused(stale())
+        MdOpening::Refused(refused(STALE))
     }
 }

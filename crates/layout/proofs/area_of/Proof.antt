@@ -16,8 +16,8 @@ is-fresh-requires c κs = search needs
 as-area-requires : tie.Need-as-area-requires
 as-area-requires c κs = search needs
 
-stale-requires : tie.Need-stale-requires
-stale-requires c κs = search needs
+refused-requires : tie.Need-refused-requires
+refused-requires c κs = search needs
 
 returns : tie.Need-returns
 returns c =
@@ -27,8 +27,8 @@ returns c =
 returns-2 : tie.Need-returns-2
 returns-2 c =
     let a = c .before .before .before .before .args in
-    ap (λ r. areaSays (Refused r)) (c .stale .ensures)
+    ap (λ r. areaSays (Refused r)) (c .refused .ensures)
     ∙ sym (stale-told asArea (now (a .file)) (a .layout) (c .before .before .is-fresh .ensures) (c .before .if1 .left))
 
 pub area-of-spec : {M : Type 1} → statement M
-area-of-spec = tie.close (tie.spec is-fresh-requires as-area-requires stale-requires returns returns-2)
+area-of-spec = tie.close (tie.spec is-fresh-requires as-area-requires refused-requires returns returns-2)

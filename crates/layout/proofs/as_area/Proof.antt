@@ -13,23 +13,23 @@ enum-known-layout c = search needs
 enum-told : tie.Need-enum-told
 enum-told c = search needs
 
-another-kind-requires : tie.Need-another-kind-requires
-another-kind-requires c κs = search needs
+refused-requires : tie.Need-refused-requires
+refused-requires c κs = search needs
 
 enum-told-2 : tie.Need-enum-told-2
 enum-told-2 c = search needs
 
-another-kind-requires-2 : tie.Need-another-kind-requires-2
-another-kind-requires-2 c κs = search needs
+refused-requires-2 : tie.Need-refused-requires-2
+refused-requires-2 c κs = search needs
 
 returns : tie.Need-returns
 returns c = rw (c .before .layout .given .1)
 
 returns-2 : tie.Need-returns-2
-returns-2 c = rw (c .before .enum-told .given .1) (ap (λ x. areaSays (Refused x)) (c .another-kind .ensures))
+returns-2 c = rw (c .before .enum-told .given .1) (ap (λ x. areaSays (Refused x)) (c .refused .ensures))
 
 returns-3 : tie.Need-returns-3
-returns-3 c = rw (c .before .enum-told2 .given .1) (ap (λ x. areaSays (Refused x)) (c .another-kind2 .ensures))
+returns-3 c = rw (c .before .enum-told2 .given .1) (ap (λ x. areaSays (Refused x)) (c .refused2 .ensures))
 
 pub as-area-spec : {M : Type 1} → statement M
 as-area-spec =
@@ -37,9 +37,9 @@ as-area-spec =
     (tie.spec
     enum-known-layout
     enum-told
-    another-kind-requires
+    refused-requires
     enum-told-2
-    another-kind-requires-2
+    refused-requires-2
     returns
     returns-2
     returns-3)

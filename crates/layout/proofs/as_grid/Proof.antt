@@ -10,8 +10,8 @@ use Rattle.layout.proofs.as_grid.Tie as tie
 enum-told : tie.Need-enum-told
 enum-told c = search needs
 
-another-kind-requires : tie.Need-another-kind-requires
-another-kind-requires c κs = search needs
+refused-requires : tie.Need-refused-requires
+refused-requires c κs = search needs
 
 enum-known-layout : tie.Need-enum-known-layout
 enum-known-layout c = search needs
@@ -19,27 +19,27 @@ enum-known-layout c = search needs
 enum-told-2 : tie.Need-enum-told-2
 enum-told-2 c = search needs
 
-another-kind-requires-2 : tie.Need-another-kind-requires-2
-another-kind-requires-2 c κs = search needs
+refused-requires-2 : tie.Need-refused-requires-2
+refused-requires-2 c κs = search needs
 
 returns : tie.Need-returns
-returns c = rw (c .before .enum-told .given .1) (ap (λ x. gridSays (Refused x)) (c .another-kind .ensures))
+returns c = rw (c .before .enum-told .given .1) (ap (λ x. gridSays (Refused x)) (c .refused .ensures))
 
 returns-2 : tie.Need-returns-2
 returns-2 c = rw (c .before .layout .given .1)
 
 returns-3 : tie.Need-returns-3
-returns-3 c = rw (c .before .enum-told2 .given .1) (ap (λ x. gridSays (Refused x)) (c .another-kind2 .ensures))
+returns-3 c = rw (c .before .enum-told2 .given .1) (ap (λ x. gridSays (Refused x)) (c .refused2 .ensures))
 
 pub as-grid-spec : {M : Type 1} → statement M
 as-grid-spec =
     tie.close
     (tie.spec
     enum-told
-    another-kind-requires
+    refused-requires
     enum-known-layout
     enum-told-2
-    another-kind-requires-2
+    refused-requires-2
     returns
     returns-2
     returns-3)

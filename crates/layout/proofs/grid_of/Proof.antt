@@ -16,8 +16,8 @@ is-fresh-requires c κs = search needs
 as-grid-requires : tie.Need-as-grid-requires
 as-grid-requires c κs = search needs
 
-stale-requires : tie.Need-stale-requires
-stale-requires c κs = search needs
+refused-requires : tie.Need-refused-requires
+refused-requires c κs = search needs
 
 returns : tie.Need-returns
 returns c =
@@ -27,8 +27,8 @@ returns c =
 returns-2 : tie.Need-returns-2
 returns-2 c =
     let a = c .before .before .before .before .args in
-    ap (λ r. gridSays (Refused r)) (c .stale .ensures)
+    ap (λ r. gridSays (Refused r)) (c .refused .ensures)
     ∙ sym (stale-told asGrid (now (a .file)) (a .layout) (c .before .before .is-fresh .ensures) (c .before .if1 .left))
 
 pub grid-of-spec : {M : Type 1} → statement M
-grid-of-spec = tie.close (tie.spec is-fresh-requires as-grid-requires stale-requires returns returns-2)
+grid-of-spec = tie.close (tie.spec is-fresh-requires as-grid-requires refused-requires returns returns-2)
