@@ -16,10 +16,10 @@ use Rattle.endian.specs.declared.Order.the-variants.{Big, Little}
 use Rattle.endian.proofs.Places.{one-order}
 use Rattle.endian.proofs.Signs.{signed-at-least}
 use Rattle.refusal.specs.Answers.{gives}
-use Rattle.area.specs.Lines.{prefixLength}
-use Rattle.area.specs.Rules.{directoryOf, wordIn, readsFour, orderOf, auditEndOf}
+use Rattle.area_rules.specs.Lines.{prefixLength}
+use Rattle.area_rules.specs.Rules.{directoryOf, wordIn, readsFour, orderOf, auditEndOf}
 use Rattle.area.specs.Opening.{layoutOf, openTold, openArea}
-use Rattle.area.specs.Accepts.{StartFits, AcceptsWords}
+use Rattle.area_rules.specs.Accepts.{StartFits, AcceptsWords}
 use Rattle.area.specs.Samples.{Starts, AreaFits, AreaOf}
 use Rattle.area.specs.declared.AreaLayout.{AreaLayout}
 use Rattle.area.proofs.Acceptance.{told-exactly, area-exactly}

@@ -15,7 +15,7 @@ use Rattle.endian.specs.declared.Order.{Order}
 use Rattle.endian.specs.declared.Order.the-variants.{Big, Little}
 use Rattle.endian.proofs.Places.{number-part}
 use Rattle.refusal.proofs.Exactness.{le-exactly, exactly-same, iff-exactly}
-use Rattle.area.specs.Rules.{directoryOf, orderOf, areaRules}
+use Rattle.area_rules.specs.Rules.{directoryOf, orderOf, areaRules}
 use Rattle.area.specs.Opening.{openTold, openArea}
 
 -- a word of the directory is in the first 256 bytes

@@ -7,10 +7,10 @@ use native.Mathlib.Nat.{mul-comm, mul-assoc, add-mul, eq-of-mul-eq-mul-right}
 use native.Mathlib.Omega.{arith}
 use Rattle.lists.specs.Lists.{Apart}
 use Rattle.lists.proofs.Rows.{compared, row-before, row-inside, row-only, multiples-apart}
-use Rattle.area.specs.Accepts.{IsWidth}
+use Rattle.area_rules.specs.Accepts.{IsWidth}
 use Rattle.area.specs.Samples.{lineIn, dataEndIn, lineStart, sampleAddress, IsSample, AreaFits}
 use Rattle.area.specs.declared.AreaLayout.{AreaLayout}
-use Rattle.area.proofs.Directory.{by-width, width-bounds}
+use Rattle.area_rules.proofs.Counts.{by-width, width-bounds}
 
 -- bands are interleaved within each element: the next slot of an element is the next sample of the line
 pub sample-next : (l : AreaLayout) (i e s : ℕ) → sampleAddress l i e (s + 1) ≡ sampleAddress l i e s + l .width

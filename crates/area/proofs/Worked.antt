@@ -7,7 +7,7 @@ use Rattle.lists.specs.Lists.{listOf}
 use Rattle.endian.specs.Numbers.{value, digits, decode, encode, numberAt}
 use Rattle.endian.specs.Words.{wordAt, atLeast}
 use Rattle.endian.specs.Files.{given, bytesOf}
-use Rattle.area.specs.Rules.{directoryOf, wordIn, countRules, shapeRules, placeRules, describedRules, wordRules, areaRules}
+use Rattle.area_rules.specs.Rules.{directoryOf, wordIn, countRules, shapeRules, placeRules, describedRules, wordRules, areaRules}
 use Rattle.area.specs.Opening.{layoutOf, openTold, openArea}
 use Rattle.area.specs.Blocks.{nextStart}
 use Rattle.area.specs.Worked.{fileP, P, fileB, B, layoutP, layoutB, WorkedArea}

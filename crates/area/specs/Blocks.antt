@@ -8,7 +8,7 @@ use mathlib.Core.List.{List, [], _∷_}
 use Prim.Native.Nat.{ℕ, _+_, _-_, _≤_, _<_}
 use lib.Dec.{ltb, eqb}
 use Rattle.lists.specs.Choices.{pick, both}
-use Rattle.area.specs.Lines.{validityLength}
+use Rattle.area_rules.specs.Lines.{validityLength}
 use Rattle.area.specs.Samples.{lineStart, dataEndIn, auditEndIn}
 use Rattle.area.specs.declared.AreaLayout.{AreaLayout}
 use Rattle.area.specs.declared.Block.{Block}

@@ -11,7 +11,7 @@ use Rattle.lists.specs.Choices.{pick}
 use Rattle.refusal.specs.Rules.{firstFault}
 use Rattle.refusal.specs.Answers.{Answer, gives, refuses, answered}
 use Rattle.refusal.specs.Tests.{sameNumbers}
-use Rattle.area.specs.Rules.{directoryOf, wordIn, orderOf, wordRules, areaRules}
+use Rattle.area_rules.specs.Rules.{directoryOf, wordIn, orderOf, wordRules, areaRules}
 use Rattle.area.specs.declared.AreaLayout.{AreaLayout}
 use Rattle.area.specs.declared.AreaOpening.{AreaOpening}
 use Rattle.area.specs.declared.AreaOpening.the-variants.{Opened, Refused}

@@ -5,9 +5,9 @@ use mathlib.Core.Logic.{_⊎_}
 use mathlib.Core.List.{List}
 use Prim.Native.Nat.{ℕ, _+_, _*_, _%_, _≤_, _<_}
 use lib.ListN.{length}
-use Rattle.area.specs.Lines.{prefixLength, lineLength, dataEnd, auditEnd}
-use Rattle.area.specs.Accepts.{IsWidth}
-use Rattle.area.specs.Rules.{orderOf}
+use Rattle.area_rules.specs.Lines.{prefixLength, lineLength, dataEnd, auditEnd}
+use Rattle.area_rules.specs.Accepts.{IsWidth}
+use Rattle.area_rules.specs.Rules.{orderOf}
 use Rattle.area.specs.declared.AreaLayout.{AreaLayout}
 
 -- the bytes of a line

@@ -1,6 +1,6 @@
 -- `area::layout` meets its contract: each field is the entry of its word.
 -- Assumes nothing.
-use Rattle.area.specs.Rules.{wordIn}
+use Rattle.area_rules.specs.Rules.{wordIn}
 use Rattle.area.specs.Opening.{layoutOf}
 use borrow.Author.Needs.{needs}
 use Rattle.area.proofs.layout.Statement.{statement}

@@ -11,7 +11,7 @@ use Rattle.endian.specs.declared.Order.{Order}
 use Rattle.lists.specs.Lists.{listOf}
 use Rattle.lists.proofs.Built.{length-listOf}
 use Rattle.lists.proofs.Filled.{over-all, over-listOf, filled-more}
-use Rattle.area.specs.Rules.{directoryOf}
+use Rattle.area_rules.specs.Rules.{directoryOf}
 use Rattle.area.proofs.read_directory.Statement.{statement}
 use Rattle.area.proofs.read_directory.Tie as tie
 
