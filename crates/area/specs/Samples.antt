@@ -1,4 +1,5 @@
--- Where the samples of an AREA file are: document 01, "AREA"; and what is known of the layout of an accepted file.
+-- Where the samples of an AREA file are: document 01, "AREA"; and what is known of the layout of an accepted file. "Sample" and "slot" are
+-- document 01's terms: the value of one band of an element, and the place of that band within the element.
 -- Assumes nothing.
 use mathlib.Core.Path.{_≡_}
 use mathlib.Core.Logic.{_⊎_}

@@ -1,8 +1,9 @@
 -- The opening checks of a GRID file: document 01, "GRID". Words are counted from 0. w k stands for the raw word k: the unsigned number
 -- that its 32 bits are. Word 10 is n, words 11 to 10 + n are the offsets of grids 1 to n, word 11 + n is the next free word.
 --
--- "Slot" is document 01's term for a grid's place in the directory. Slots are counted from 0 here: slot k is that of grid k + 1, its offset is word
--- 11 + k, and 11 + k is also the place of its faults.
+-- "Next free word" and "slot" are document 01's terms: what the manual calls the next available address to start writing the next grid, and a
+-- grid's place in the directory. Slots are counted from 0 here: slot k is that of grid k + 1, its offset is word 11 + k, and 11 + k is also the
+-- place of its faults.
 -- Assumes nothing.
 use mathlib.Core.Bool.{Bool, false, not}
 use mathlib.Core.List.{List, [], _∷_, _++_}
