@@ -9,21 +9,14 @@ use Rattle.endian.specs.Words.{wordAt, atLeast}
 use Rattle.endian.specs.Files.{given, bytesOf}
 use Rattle.area_rules.specs.Rules.{directoryOf, wordIn, countRules, shapeRules, placeRules, describedRules, wordRules, areaRules}
 use Rattle.area.specs.Opening.{layoutOf, openTold, openArea}
-use Rattle.area.specs.Blocks.{nextStart}
 use Rattle.area.specs.Worked.{fileP, P, fileB, B, layoutP, layoutB, WorkedArea}
 
 pub worked-area : WorkedArea
-unfolding openArea openTold areaRules wordRules describedRules countRules shapeRules placeRules directoryOf wordIn layoutOf firstFault first judge within atLeast listOf wordAt numberAt decode encode value digits given bytesOf nextStart fileP P fileB B layoutP layoutB
+unfolding openArea openTold areaRules wordRules describedRules countRules shapeRules placeRules directoryOf wordIn layoutOf firstFault first judge within atLeast listOf wordAt numberAt decode encode value digits given bytesOf fileP P fileB B layoutP layoutB
 worked-area =
     record {
       sizes = (refl, refl);
       P-opens = refl;
-      P-sample = refl;
-      P-cut = refl;
       B-opens = refl;
-      B-sample = refl;
       B-interleaved = refl;
-      B-nav = (refl, refl);
-      B-nav-in-data = refl;
-      B-prefix = refl;
     }

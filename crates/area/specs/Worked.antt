@@ -1,18 +1,17 @@
--- The worked files P and B of document 01. "What isn't given is 0, or what its rule asks."
+-- The worked files P and B of document 01, and their layouts. "What isn't given is 0, or what its rule asks." The cases that document 01 marks stand together
+-- in worked_cases.
 -- Assumes nothing.
 use mathlib.Core.Path.{_≡_}
 use mathlib.Core.List.{List, [], _∷_, _++_}
 use mathlib.Core.Bool.{true, false}
 use Prim.Native.Nat.{ℕ, _-_}
-use lib.ListN.{length, take, replicate}
+use lib.ListN.{length, replicate}
 use Rattle.endian.specs.Files.{given, bytesOf}
 use Rattle.endian.specs.declared.Order.the-variants.{Big}
-use Rattle.refusal.specs.Answers.{gives, refuses}
+use Rattle.refusal.specs.Answers.{gives}
 use Rattle.area.specs.Opening.{openArea}
 use Rattle.area.specs.Samples.{sampleAddress}
-use Rattle.area.specs.Blocks.{blockStart, blockLength}
 use Rattle.area.specs.declared.AreaLayout.{AreaLayout}
-use Rattle.area.specs.declared.Block.the-variants.{Nav}
 
 -- word k, counted from 1, is n
 abbrev W : ℕ → ℕ → ℕ × ℕ
@@ -98,22 +97,10 @@ layoutB =
       plain = false;
     }
 
--- what document 01 says of them
+-- they have the sizes that document 01 gives, and these layouts
 pub record WorkedArea : Type 0 where
   pub sizes : (length P ≡ 264) × (length B ≡ 520)
   pub P-opens : openArea P ≡ gives layoutP
-  -- P line 1, element 2, slot 0: byte 262
-  pub P-sample : sampleAddress layoutP 1 2 0 ≡ 262
-  -- P cut to 263 bytes: 5 at 34
-  pub P-cut : openArea (take 263 P) ≡ refuses 5 34
   pub B-opens : openArea B ≡ gives layoutB
-  -- B line 1, element 2, slot 1: byte 438
-  pub B-sample : sampleAddress layoutB 1 2 1 ≡ 438
   -- bands are interleaved: element 1 of slot 0 comes behind both slots of element 0
   pub B-interleaved : sampleAddress layoutB 0 1 0 ≡ 404
-  -- B's NAV: 256, length 128
-  pub B-nav : (blockStart layoutB Nav ≡ 256) × (blockLength layoutB Nav ≡ 128)
-  -- B with W35 = 384: 5 at 35
-  pub B-nav-in-data : openArea (fileB 384 16) ≡ refuses 5 35
-  -- B with W15 = 12: 4 at 15
-  pub B-prefix : openArea (fileB 256 12) ≡ refuses 4 15

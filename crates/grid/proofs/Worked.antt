@@ -13,4 +13,4 @@ use Rattle.grid.specs.Worked.{fileG, G, layoutG, WorkedGrid}
 pub worked-grid : WorkedGrid
 unfolding openGrid openWords fileRules headRules slotsRules slotRules ownRules headerRules sizeRules overlapRule meets shares wantedRules layoutOf
     firstFault first judge within atLeast wordAt numberAt decode value encode digits bytesOf given fileG G layoutG
-worked-grid = record { size = refl; G-opens = refl; G-point = refl; G-overlap = refl; G-empty = refl }
+worked-grid = record { size = refl; G-opens = refl }

@@ -1,4 +1,5 @@
 -- The worked file G of document 01: 336 bytes, big order, n = 2, offsets 14 and -1, next free word 84, grid 1 of 2 rows, 3 columns, size 6.
+-- The cases that document 01 marks stand together in worked_cases.
 -- Assumes nothing.
 use mathlib.Core.Path.{_≡_}
 use mathlib.Core.List.{List, [], _∷_}
@@ -6,10 +7,9 @@ use Prim.Native.Nat.{ℕ}
 use lib.ListN.{length}
 use Rattle.endian.specs.Files.{given, bytesOf}
 use Rattle.endian.specs.declared.Order.the-variants.{Big}
-use Rattle.refusal.specs.Answers.{gives, refuses}
+use Rattle.refusal.specs.Answers.{gives}
 use Rattle.grid_rules.specs.Opening.{openGrid}
 use Rattle.grid_rules.specs.declared.GridLayout.{GridLayout}
-use Rattle.grid.specs.Points.{pointWord}
 
 -- G, but for the offset of grid 2
 unfoldable pub fileG : ℕ → List ℕ
@@ -33,13 +33,7 @@ G = fileG 4294967295
 unfoldable pub layoutG : GridLayout
 layoutG = record { order = Big; length = 336; number = 1; offset = 14; rows = 2; columns = 3 }
 
--- what document 01 says of it
+-- it has the size that document 01 gives, and this layout
 pub record WorkedGrid : Type 0 where
   pub size : length G ≡ 336
   pub G-opens : openGrid Big G 1 ≡ gives layoutG
-  -- G point (2,3): word 83
-  pub G-point : pointWord layoutG 2 3 ≡ 83
-  -- G's slot 2 set to 83: 5 at 12
-  pub G-overlap : openGrid Big (fileG 83) 1 ≡ refuses 5 12
-  -- G, grid 2: refusal 6
-  pub G-empty : openGrid Big G 2 ≡ refuses 6 0

@@ -6,8 +6,8 @@ use mathlib.Core.Logic.{_↔_}
 use mathlib.Core.List.{List}
 use Prim.Native.Nat.{ℕ}
 use native.Mathlib.Omega.{arith}
-use Rattle.refusal.specs.Answers.{Answer, gives, refuses}
-use Rattle.refusal.proofs.Answers.{gives-refuses, gives-same, mapped-gives}
+use Rattle.refusal.specs.Answers.{Answer, gives, refuses, andThen}
+use Rattle.refusal.proofs.Answers.{gives-refuses, gives-same, mapped-gives, then-never, then-refused}
 use Rattle.area.specs.Opening.{openArea}
 use Rattle.area.specs.Samples.{AreaOf}
 use Rattle.area.proofs.Facts.{area-of}
@@ -113,6 +113,14 @@ module _ {Value : Type 0} {kind : Value → Layout} {own : Layout → Answer Val
   other-found : (found own f l ≡ refuses 7 0) ↔ (Fresh f l × (own l ≡ refuses 7 0))
   other-found = found-only own f l (refuses 7 0) not-nine
 
+  -- a call that goes on with the layout, and never refuses 9 by itself, refuses it exactly where the layout is stale
+  then-stale : {Other : Type 0} (h : Value → Answer Other) → ((v : Value) → ¬ (h v ≡ refuses 9 0))
+      → (andThen (found own f l) h ≡ refuses 9 0) ↔ (¬ Fresh f l)
+  then-stale h never = (
+    λ e fresh. then-never h (found own f l) 9 0 (λ q. stale-found .0 q fresh) never e,
+    λ stale. then-refused h (found own f l) 9 0 (stale-found .1 stale),
+  )
+
 -- ---- AREA
 
 -- an AREA call finds a layout exactly where it is the layout, and opening the file gives it
@@ -132,6 +140,11 @@ area-stale f l = stale-found area-kind f l
 pub area-other : (f : List ℕ) (l : Layout) → (areaOf f l ≡ refuses 7 0) ↔ (Fresh f l × (asArea l ≡ refuses 7 0))
 area-other f l = other-found area-kind f l
 
+-- so is a call that goes on with the layout and never refuses 9 by itself
+pub area-nine : {Other : Type 0} (f : List ℕ) (l : Layout) (h : AreaLayout → Answer Other) → ((a : AreaLayout) → ¬ (h a ≡ refuses 9 0))
+    → (andThen (areaOf f l) h ≡ refuses 9 0) ↔ (¬ Fresh f l)
+area-nine f l h never = then-stale area-kind f l h never
+
 -- ---- GRID
 
 pub grid-found : (f : List ℕ) (l : Layout) (g : GridLayout)
@@ -149,6 +162,10 @@ grid-stale f l = stale-found grid-kind f l
 pub grid-other : (f : List ℕ) (l : Layout) → (gridOf f l ≡ refuses 7 0) ↔ (Fresh f l × (asGrid l ≡ refuses 7 0))
 grid-other f l = other-found grid-kind f l
 
+pub grid-nine : {Other : Type 0} (f : List ℕ) (l : Layout) (h : GridLayout → Answer Other) → ((g : GridLayout) → ¬ (h g ≡ refuses 9 0))
+    → (andThen (gridOf f l) h ≡ refuses 9 0) ↔ (¬ Fresh f l)
+grid-nine f l h never = then-stale grid-kind f l h never
+
 -- ---- MD
 
 pub md-found : (f : List ℕ) (l : Layout) (m : MdLayout) → (mdOf f l ≡ gives m) ↔ ((l ≡ Md m) × (openMd (m .order) f ≡ gives m))
@@ -164,3 +181,7 @@ md-stale f l = stale-found md-kind f l
 
 pub md-other : (f : List ℕ) (l : Layout) → (mdOf f l ≡ refuses 7 0) ↔ (Fresh f l × (asMd l ≡ refuses 7 0))
 md-other f l = other-found md-kind f l
+
+pub md-nine : {Other : Type 0} (f : List ℕ) (l : Layout) (h : MdLayout → Answer Other) → ((m : MdLayout) → ¬ (h m ≡ refuses 9 0))
+    → (andThen (mdOf f l) h ≡ refuses 9 0) ↔ (¬ Fresh f l)
+md-nine f l h never = then-stale md-kind f l h never

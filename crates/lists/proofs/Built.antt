@@ -2,9 +2,9 @@
 -- Assumes nothing.
 use mathlib.Core.Path.{_≡_, refl, sym, ap, ap₂, _∙_}
 use mathlib.Core.Logic.{⊎-elim}
-use mathlib.Core.List.{List, [], _∷_, _++_}
+use mathlib.Core.List.{List, [], _∷_, _++_, append-assoc, append-nil}
 use Prim.Native.Nat.{ℕ, zero, suc, _+_, _*_, _<_}
-use native.Mathlib.Nat.{zero-mul, mul-one, suc-mul, eq-or-lt-of-le, le-of-suc-le-suc}
+use native.Mathlib.Nat.{add-zero, add-suc, zero-mul, mul-one, suc-mul, eq-or-lt-of-le, le-of-suc-le-suc}
 use native.Mathlib.Omega.{arith}
 use lib.ListN.{length, getD, length-append, List·getD-append}
 use lib.Seq.{getD-append-add}
@@ -57,3 +57,12 @@ module _ {A : Type 0} (f : ℕ → A) where
   getD-listOf n i d h =
       let e : i ≡ i * 1 + 0 = omega arith in
       ap₂ (λ l k. getD l k d) (listOf-lines f n) e ∙ getD-linesOf (λ k. f k ∷ []) 1 (λ k. refl) n i 0 d h (omega arith)
+
+  -- a list by its index in two pieces
+  pub listOf-append : (i n : ℕ) → listOf f i ++ listOf (λ j. f (i + j)) n ≡ listOf f (i + n)
+  unfolding listOf
+  listOf-append i zero = append-nil (listOf f i) ∙ ap (listOf f) (sym (add-zero i))
+  listOf-append i (suc n) =
+      sym (append-assoc (listOf f i) (listOf (λ j. f (i + j)) n) (f (i + n) ∷ []))
+      ∙ ap (λ (l : List A). l ++ f (i + n) ∷ []) (listOf-append i n)
+      ∙ ap (listOf f) (sym (add-suc i n))

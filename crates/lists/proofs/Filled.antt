@@ -3,14 +3,14 @@
 -- Assumes nothing.
 use mathlib.Core.Path.{_≡_, refl, sym, ap, _∙_}
 use mathlib.Core.List.{List, [], _∷_, _++_, append-assoc, append-nil}
-use Prim.Native.Nat.{ℕ, suc, _+_, _*_, _≤_, _<_}
+use Prim.Native.Nat.{ℕ, suc, _+_, _-_, _*_, _≤_, _<_}
 use native.Mathlib.Nat.{suc-mul}
 use native.Mathlib.Numerals.{add-one}
 use native.Mathlib.Omega.{arith}
-use lib.ListN.{length, getD, set, take, drop, length-append, length-drop}
-use lib.Seq.{drop-cons, drop-length, drop-drop, set-at, take-at, drop-at}
+use lib.ListN.{length, getD, set, take, drop, length-append, length-drop, List·getD-append}
+use lib.Seq.{drop-cons, drop-length, drop-drop, set-at, take-at, drop-at, getD-append-add, getD-drop}
 use Rattle.lists.specs.Lists.{listOf, linesOf, over}
-use Rattle.lists.proofs.Built.{length-listOf, length-linesOf}
+use Rattle.lists.proofs.Built.{length-listOf, listOf-append, length-linesOf}
 
 module _ {A : Type 0} where
   -- k elements in front of what stood behind the first k: the length is as it was
@@ -20,6 +20,17 @@ module _ {A : Type 0} where
   -- a copy leaves the output's length, its own elements in front, and what stood behind them
   pub length-over : (l out : List A) → length l ≤ length out → length (over l out) ≡ length out
   length-over l out h = front-length l out (length l) refl h
+
+  pub over-front : (l out : List A) (i : ℕ) (d : A) → i < length l → getD (over l out) i d ≡ getD l i d
+  over-front l out i d h = List·getD-append l (drop (length l) out) d i h
+
+  pub over-rest : (l out : List A) (i : ℕ) (d : A) → length l ≤ i → getD (over l out) i d ≡ getD out i d
+  over-rest l out i d h =
+      let e : i ≡ length l + (i - length l) = omega arith in
+      ap (λ (k : ℕ). getD (over l out) k d) e
+      ∙ getD-append-add l (drop (length l) out) (i - length l) d
+      ∙ getD-drop (length l) out (i - length l) d
+      ∙ ap (λ (k : ℕ). getD out k d) (sym e)
 
   pub over-all : (l out : List A) → length l ≡ length out → over l out ≡ l
   over-all l out e = rw (e, drop-length out) (append-nil l)
@@ -58,6 +69,18 @@ module _ {A : Type 0} (f : ℕ → A) where
   pub filled-over : (i : ℕ) (out now : List A) → now ≡ listOf f i ++ drop i out → now ≡ listOf f i ++ drop i now
   filled-over i out now e =
       e ∙ ap (λ (l : List A). listOf f i ++ l) (sym (drop-at (listOf f i) (drop i out) i (length-listOf f i)) ∙ ap (drop i) (sym e))
+
+  -- m turns more at once, stored into the middle
+  pub filled-part : (i m k : ℕ) (out : List A) → k ≡ m
+      → take i (listOf f i ++ drop i out) ++ (listOf (λ j. f (i + j)) m ++ drop k (drop i (listOf f i ++ drop i out))) ≡ listOf f (i + m) ++ drop (i + m) out
+  filled-part i m k out e =
+      let p : length (listOf f i) ≡ i = length-listOf f i in
+      rw (e, take-at (listOf f i) (drop i out) i p, drop-at (listOf f i) (drop i out) i p, drop-drop m i out, ← listOf-append f i m)
+      (sym (append-assoc (listOf f i) (listOf (λ j. f (i + j)) m) (drop (i + m) out)))
+
+  -- after the last turn nothing is left of what the output held before
+  pub filled-all : (i : ℕ) (out : List A) → i ≡ length out → listOf f i ++ drop i out ≡ listOf f (length out)
+  filled-all i out e = rw (e, drop-length out) (append-nil (listOf f (length out)))
 
 -- lines of n elements each
 module _ {A : Type 0} (g : ℕ → List A) (n : ℕ) (all : (k : ℕ) → length (g k) ≡ n) where

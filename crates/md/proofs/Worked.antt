@@ -18,9 +18,6 @@ worked-md =
     record {
       size = refl;
       M-opens = refl;
-      M-data = refl;
-      M-row = refl;
-      M-word-28 = refl;
       M-key = refl;
       M-next-column = refl;
     }

@@ -1,5 +1,5 @@
 -- The worked file M of document 01: big order, R = 2, C = 3, a = 2, b = 1, d = 3, 16,484 bytes, word 30 = 4121. "What isn't given is 0, or what
--- its rule asks."
+-- its rule asks." The cases that document 01 marks stand together in worked_cases.
 -- Assumes nothing.
 use mathlib.Core.Path.{_≡_}
 use mathlib.Core.List.{List, [], _∷_, _++_}
@@ -7,7 +7,7 @@ use Prim.Native.Nat.{ℕ, _+_}
 use lib.ListN.{length, replicate}
 use Rattle.endian.specs.Files.{given, bytesOf}
 use Rattle.endian.specs.declared.Order.the-variants.{Big}
-use Rattle.refusal.specs.Answers.{gives, refuses}
+use Rattle.refusal.specs.Answers.{gives}
 use Rattle.md.specs.Opening.{openMd}
 use Rattle.md.specs.Fields.{fieldWord}
 use Rattle.md.specs.declared.MdLayout.{MdLayout}
@@ -56,16 +56,10 @@ layoutM =
       «data_start» = 4103;
     }
 
--- what document 01 says of it
+-- it has the size that document 01 gives, and this layout
 pub record WorkedMd : Type 0 where
   pub size : length M ≡ 16484
   pub M-opens : openMd Big M ≡ gives layoutM
-  -- M field 3 of (2,3): word 4120
-  pub M-data : fieldWord layoutM 2 3 3 ≡ 4120
-  -- M field 2 of (2,0): word 4099
-  pub M-row : fieldWord layoutM 2 0 2 ≡ 4099
-  -- M with word 28 = 4099: 4 at 28
-  pub M-word-28 : openMd Big (fileM 4099) ≡ refuses 4 28
   -- key 1 of the records (2,1) and (2,3) is field 1 of row header 2, one word whatever the column
   pub M-key : fieldWord layoutM 2 0 1 ≡ 4098
   -- the data of (1,2) come next after those of (1,1): rows are outermost

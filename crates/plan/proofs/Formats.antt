@@ -30,7 +30,7 @@ on-lattice i base w j k h₁ h₂ h₃ h₄ = step (decLt j k) (decLt k j)
     step (no h) (no g) = omega arith
 
 -- a choice between a plan and a refusal that writes is the plan
-pick-write : {A : Type 0} (t : Bool) (p : Plan A) (r q : A) (a : ℕ) (b : List ℕ) → pick t p (refuse r) ≡ write q a b
+pub pick-write : {A : Type 0} (t : Bool) (p : Plan A) (r q : A) (a : ℕ) (b : List ℕ) → pick t p (refuse r) ≡ write q a b
     → (t ≡ true) × (p ≡ write q a b)
 pick-write true p r q a b e = (refl, e)
 pick-write false p r q a b e = let z : _≡_ {A = ℕ} 0 1 = cc in let y : ⊥ = omega arith in absurd y

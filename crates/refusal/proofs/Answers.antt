@@ -1,16 +1,22 @@
 -- Laws of answers: an answer is a value exactly where every rule holds, and a refusal exactly where one fails.
 -- Assumes nothing.
-use mathlib.Core.Path.{_≡_, refl, sym, ap, _∙_}
+use mathlib.Core.Path.{_≡_, refl, sym, ap, subst, _∙_}
 use mathlib.Core.Logic.{_↔_}
-use mathlib.Core.List.{List}
+use mathlib.Core.List.{List, _∷_}
 use Prim.Native.Nat.{ℕ}
 use native.Mathlib.Omega.{arith}
-use Rattle.refusal.specs.Rules.{Rule, firstFault, Hold, Give, FirstFailing}
-use Rattle.refusal.specs.Answers.{Answer, gives, refuses, answered, mapped}
+use Rattle.refusal.specs.Rules.{Rule, firstFault, Every, Hold, Give, FirstFailing}
+use Rattle.refusal.specs.Answers.{Answer, gives, refuses, answered, mapped, andThen, numberSays, wordSays, sizeSays}
+use Rattle.refusal.specs.declared.NumberAnswer.{NumberAnswer}
+use Rattle.refusal.specs.declared.NumberAnswer.the-variants as NumberAnswer
 use Rattle.refusal.specs.declared.Refusal.{Refusal}
+use Rattle.refusal.specs.declared.SizeAnswer.{SizeAnswer}
+use Rattle.refusal.specs.declared.SizeAnswer.the-variants as SizeAnswer
 use Rattle.refusal.specs.declared.Verdict.{Verdict}
 use Rattle.refusal.specs.declared.Verdict.the-variants.{Pass, Fault}
-use Rattle.refusal.proofs.Tables.{pass-hold, hold-pass, fault-first, first-fault, same-fault}
+use Rattle.refusal.specs.declared.WordAnswer.{WordAnswer}
+use Rattle.refusal.specs.declared.WordAnswer.the-variants as WordAnswer
+use Rattle.refusal.proofs.Tables.{pass-hold, hold-pass, fault-first, first-fault, every-right, same-fault}
 
 -- ---- answers that are equal
 
@@ -35,11 +41,71 @@ module _ {Value : Type 0} where
       → (x y : Enum) → says x ≡ says y → x ≡ y
   settled says back e x y p = sym (e x) ∙ ap back p ∙ e y
 
+-- what an answer says settles the answer: one whose value is an unsigned number
+pub number-settled : (x y : NumberAnswer) → numberSays x ≡ numberSays y → x ≡ y
+number-settled (NumberAnswer.Value n) (NumberAnswer.Value m) e = ap NumberAnswer.Value (gives-same e)
+number-settled (NumberAnswer.Value n) (NumberAnswer.Refused s) e = gives-refuses e
+number-settled (NumberAnswer.Refused r) (NumberAnswer.Value m) e = gives-refuses (sym e)
+number-settled (NumberAnswer.Refused r) (NumberAnswer.Refused s) e = ap NumberAnswer.Refused (refuses-same e)
+
+-- one whose value is a signed word
+pub word-settled : (x y : WordAnswer) → wordSays x ≡ wordSays y → x ≡ y
+word-settled (WordAnswer.Value n) (WordAnswer.Value m) e = ap WordAnswer.Value (gives-same e)
+word-settled (WordAnswer.Value n) (WordAnswer.Refused s) e = gives-refuses e
+word-settled (WordAnswer.Refused r) (WordAnswer.Value m) e = gives-refuses (sym e)
+word-settled (WordAnswer.Refused r) (WordAnswer.Refused s) e = ap WordAnswer.Refused (refuses-same e)
+
+-- one whose value is an address, a length or a count
+pub size-settled : (x y : SizeAnswer) → sizeSays x ≡ sizeSays y → x ≡ y
+size-settled (SizeAnswer.Value n) (SizeAnswer.Value m) e = ap SizeAnswer.Value (gives-same e)
+size-settled (SizeAnswer.Value n) (SizeAnswer.Refused s) e = gives-refuses e
+size-settled (SizeAnswer.Refused r) (SizeAnswer.Value m) e = gives-refuses (sym e)
+size-settled (SizeAnswer.Refused r) (SizeAnswer.Refused s) e = ap SizeAnswer.Refused (refuses-same e)
+
 -- an answer with other values made of its values, no two of which become one, gives what the answer gives
 pub mapped-gives : {Value Other : Type 0} (h : Value → Other) → ((v w : Value) → h v ≡ h w → v ≡ w)
     → (x : Answer Value) (v : Value) → (mapped h x ≡ gives (h v)) ↔ (x ≡ gives v)
 mapped-gives h inject (gives w) v = (λ e. ap gives (inject w v (gives-same e)), λ e. ap (λ u. gives (h u)) (gives-same e))
 mapped-gives h inject (refuses n p) v = (λ e. gives-refuses (sym e), λ e. gives-refuses (sym e))
+
+-- equal refusals of answers with values of any type
+refuses-alike : {A B : Type 0} {m q n p : ℕ} → _≡_ {A = Answer A} (refuses m q) (refuses n p) → _≡_ {A = Answer B} (refuses m q) (refuses n p)
+refuses-alike {m = m} {q} {n} {p} e =
+    let number : m ≡ n = cc in
+    let place : q ≡ p = cc in
+    λ i. refuses (number i) (place i)
+
+-- what it gives is made of what the answer gives
+pub mapped-made : {Value Other : Type 0} (h : Value → Other) (x : Answer Value) (w : Other)
+    → (mapped h x ≡ gives w) ↔ ((v : Value) × (x ≡ gives v) × (w ≡ h v))
+mapped-made h (gives v) w = (λ e. (v, refl, sym (gives-same e)), λ p. ap (λ u. gives (h u)) (gives-same (p .1)) ∙ ap gives (sym (p .2)))
+mapped-made h (refuses n q) w = (λ e. gives-refuses (sym e), λ p. gives-refuses (sym (p .1)))
+
+-- it refuses exactly as the answer does
+pub mapped-refuses : {Value Other : Type 0} (h : Value → Other) (x : Answer Value) (n p : ℕ) → (mapped h x ≡ refuses n p) ↔ (x ≡ refuses n p)
+mapped-refuses h (gives v) n p = (λ e. gives-refuses e, λ e. gives-refuses e)
+mapped-refuses h (refuses m q) n p = (λ e. refuses-alike e, λ e. refuses-alike e)
+
+-- ---- an answer that goes on with another's value
+
+module _ {Value Other : Type 0} (h : Value → Answer Other) where
+  -- it gives a value exactly where the first gives one, with which the second gives it
+  pub then-gives : (x : Answer Value) (w : Other) → (andThen x h ≡ gives w) ↔ ((v : Value) × (x ≡ gives v) × (h v ≡ gives w))
+  then-gives (gives v) w = (λ e. (v, refl, e), λ p. ap h (gives-same (p .1)) ∙ p .2)
+  then-gives (refuses n q) w = (λ e. gives-refuses (sym e), λ p. gives-refuses (sym (p .1)))
+
+  -- where the first gives a value, the second decides
+  pub then-given : (x : Answer Value) (v : Value) → x ≡ gives v → andThen x h ≡ h v
+  then-given x v e = ap (λ (y : Answer Value). andThen y h) e
+
+  -- where neither refuses so, the two together do not
+  pub then-never : (x : Answer Value) (n p : ℕ) → ¬ (x ≡ refuses n p) → ((v : Value) → ¬ (h v ≡ refuses n p)) → ¬ (andThen x h ≡ refuses n p)
+  then-never (gives v) n p first second e = second v e
+  then-never (refuses m q) n p first second e = first (refuses-alike e)
+
+  -- a refusal of the first stays
+  pub then-refused : (x : Answer Value) (n p : ℕ) → x ≡ refuses n p → andThen x h ≡ refuses n p
+  then-refused x n p e = ap (λ (y : Answer Value). andThen y h) e
 
 -- ---- the answer of a table
 
@@ -59,6 +125,14 @@ module _ {Value : Type 0} (rs : List Rule) (v : Value) where
       step : (x : Verdict) → firstFault rs ≡ x → answered x v ≡ refuses (f .number) (f .place) → FirstFailing rs f
       step Pass p e = gives-refuses e
       step (Fault r) p e = fault-first rs f (p ∙ ap Fault (refuses-same e))
+
+  -- and never with a number that no rule has
+  pub never-refused : (n p : ℕ) → Every (λ r. ¬ (r .number ≡ n)) rs → ¬ (answered (firstFault rs) v ≡ refuses n p)
+  never-refused n p other e =
+      let f : Refusal = record { number = n; place = p } in
+      let x : FirstFailing rs f = refusal-exactly f .0 e in
+      every-right (λ r. ¬ (r .number ≡ n)) (x .before) (x .failing ∷ x .after) (subst (Every (λ r. ¬ (r .number ≡ n))) (x .split) other) .0
+      (sym (ap (λ (r : Refusal). r .number) (x .gives)))
 
 -- ---- answers that say exactly whether a value is the one for what was asked
 

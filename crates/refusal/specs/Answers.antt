@@ -4,8 +4,15 @@
 -- contract is that what the call's answer says equals what the call's definition gives.
 -- Assumes nothing.
 use Prim.Native.Nat.{ℕ}
+use lib.IntN.{ℤ}
+use Rattle.refusal.specs.declared.NumberAnswer.{NumberAnswer}
+use Rattle.refusal.specs.declared.NumberAnswer.the-variants as NumberAnswer
+use Rattle.refusal.specs.declared.SizeAnswer.{SizeAnswer}
+use Rattle.refusal.specs.declared.SizeAnswer.the-variants as SizeAnswer
 use Rattle.refusal.specs.declared.Verdict.{Verdict}
 use Rattle.refusal.specs.declared.Verdict.the-variants.{Pass, Fault}
+use Rattle.refusal.specs.declared.WordAnswer.{WordAnswer}
+use Rattle.refusal.specs.declared.WordAnswer.the-variants as WordAnswer
 
 -- a value, or the number and the place of a refusal
 pub data Answer (Value : Type 0) : Type 0 where
@@ -21,3 +28,23 @@ answered (Fault r) v = refuses (r .number) (r .place)
 abbrev pub mapped : {Value Other : Type 0} → (Value → Other) → Answer Value → Answer Other
 mapped h (gives v) = gives (h v)
 mapped h (refuses n p) = refuses n p
+
+-- the answer of a call that goes on with the value of another: a refusal of the first stays
+abbrev pub andThen : {Value Other : Type 0} → Answer Value → (Value → Answer Other) → Answer Other
+andThen (gives v) h = h v
+andThen (refuses n p) h = refuses n p
+
+-- what each case of an answer says whose value is an unsigned number
+abbrev pub numberSays : NumberAnswer → Answer ℕ
+numberSays (NumberAnswer.Value n) = gives n
+numberSays (NumberAnswer.Refused r) = refuses (r .number) (r .place)
+
+-- whose value is a signed word
+abbrev pub wordSays : WordAnswer → Answer ℤ
+wordSays (WordAnswer.Value v) = gives v
+wordSays (WordAnswer.Refused r) = refuses (r .number) (r .place)
+
+-- whose value is an address, a length or a count
+abbrev pub sizeSays : SizeAnswer → Answer ℕ
+sizeSays (SizeAnswer.Value n) = gives n
+sizeSays (SizeAnswer.Refused r) = refuses (r .number) (r .place)

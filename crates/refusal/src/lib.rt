@@ -35,6 +35,24 @@ pub const SHORT_OUTPUT: u32 = 10;
 // A word is no date, or no time of day. Place 0.
 pub const NO_DATE: u32 = 11;
 
+// What a call answers whose value is an unsigned number of 32 bits: the value, or a refusal.
+pub enum NumberAnswer {
+    Value(u32),
+    Refused(Refusal),
+}
+
+// What a call answers whose value is a signed word: the value, or a refusal.
+pub enum WordAnswer {
+    Value(i32),
+    Refused(Refusal),
+}
+
+// What a call answers whose value is an address, a length or a count: the value, or a refusal.
+pub enum SizeAnswer {
+    Value(usize),
+    Refused(Refusal),
+}
+
 // What the rules that were applied so far say: they all hold, or the first that does not gives this refusal.
 pub enum Verdict {
     Pass,
