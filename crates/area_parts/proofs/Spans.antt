@@ -1,0 +1,123 @@
+-- The spans of blocks and prefix regions. One that is given is inside the file, and has bytes; it is given exactly where the block is present, or the line has
+-- the region.
+-- Assumes nothing.
+use mathlib.Core.Path.{_≡_, refl, sym, subst}
+use mathlib.Core.Bool.{true}
+use mathlib.Core.Logic.{_↔_}
+use mathlib.Core.List.{List, [], _∷_}
+use Prim.Native.Nat.{ℕ, _+_, _≤_, _<_}
+use native.Mathlib.Nat.{le-refl}
+use native.Mathlib.Omega.{arith}
+use lib.ListN.{length}
+use Rattle.refusal.specs.Answers.{Answer, gives, refuses, andThen}
+use Rattle.refusal.specs.Rules.{tabled, Hold}
+use Rattle.refusal.proofs.Answers.{then-gives, value-exactly, never-refused}
+use Rattle.refusal.proofs.Exactness.{lt-exactly, eq-exactly, not-exactly}
+use Rattle.refusal.proofs.Tables.{also}
+use Rattle.area.specs.Samples.{dataEndIn, AreaFits, AreaOf}
+use Rattle.area.specs.Blocks.{present, blockStart, blockLength, regionStart, regionLength}
+use Rattle.area.specs.declared.AreaLayout.{AreaLayout}
+use Rattle.area.specs.declared.Block.{Block}
+use Rattle.area.specs.declared.Region.{Region}
+use Rattle.area.proofs.Blocks.{block-inside}
+use Rattle.area.proofs.Regions.{region-inside}
+use Rattle.layout.specs.Found.{areaOf}
+use Rattle.layout.specs.Layouts.{Fresh}
+use Rattle.layout.specs.declared.Layout.{Layout}
+use Rattle.layout.proofs.OneKind.{area-known, area-nine}
+use Rattle.parts.specs.Spans.{span, Inside}
+use Rattle.parts.specs.declared.Span.{Span}
+use Rattle.places.specs.Places.{lineStartOf}
+use Rattle.places.proofs.Places.{line-begins}
+use Rattle.area_parts.specs.Spans.{blockRules, blockOf, blockSpan, regionRules, regionOf, regionSpan}
+
+-- ---- where lines begin
+
+-- DATA ends where line W9 would begin
+pub data-end : (l : AreaLayout) → AreaFits l → lineStartOf l (l .lines) ≡ gives (dataEndIn l)
+data-end l fits = line-begins l fits (l .lines) (le-refl (l .lines))
+
+-- ---- blocks
+
+module _ (l : AreaLayout) (b : Block) where
+  -- a block has a span exactly where it is present, and then its own
+  pub block-exactly : (s : Span) → (blockOf l b ≡ gives s) ↔ ((present l b ≡ true) × (s ≡ span (blockStart l b) (blockLength l b)))
+  unfolding blockOf blockRules
+  block-exactly s =
+      let x = value-exactly (blockRules l b) (span (blockStart l b) (blockLength l b)) s in
+      (λ e. (x .0 e .0 .0, x .0 e .1), λ h. x .1 (also (h .0) tt, h .1))
+
+  -- it has bytes, and is inside the file
+  pub block-bounds : AreaFits l → (s : Span) → blockOf l b ≡ gives s → (1 ≤ s .length) × (s .start + s .length ≤ l .length)
+  block-bounds fits s e =
+      let (here, same) = block-exactly s .0 e in
+      let (some, inside) = block-inside l fits b here in
+      subst (λ (x : Span). (1 ≤ x .length) × (x .start + x .length ≤ l .length)) (sym same) (omega arith, omega arith)
+
+-- ---- prefix regions
+
+-- 7 for the line comes before 6 for the length
+pub region-order : (l : AreaLayout) (i : ℕ) (r : Region) → tabled (regionRules l i r) ≡ (7, 0) ∷ (6, 0) ∷ []
+unfolding tabled regionRules
+region-order l i r = refl
+
+module _ (l : AreaLayout) (i : ℕ) (r : Region) where
+  -- the rules of a region hold exactly where there is such a line and the region has bytes
+  pub region-hold : Hold (regionRules l i r) ↔ ((i < l .lines) × (¬ (regionLength l r ≡ 0)))
+  unfolding regionRules
+  region-hold =
+      let line = lt-exactly i (l .lines) in
+      let some = not-exactly (eq-exactly (regionLength l r) 0) in
+      (λ h. (line .sound (h .0), some .sound (h .1 .0)), λ h. also (line .complete (h .0)) (also (some .complete (h .1)) tt))
+
+  -- a region has a span exactly there, and then its own
+  pub region-exactly : (s : Span)
+      → (regionOf l i r ≡ gives s) ↔ (((i < l .lines) × (¬ (regionLength l r ≡ 0))) × (s ≡ span (regionStart l i r) (regionLength l r)))
+  unfolding regionOf
+  region-exactly s =
+      let x = value-exactly (regionRules l i r) (span (regionStart l i r) (regionLength l r)) s in
+      (λ e. (region-hold .0 (x .0 e .0), x .0 e .1), λ h. x .1 (region-hold .1 (h .0), h .1))
+
+  -- it has bytes, and is inside the file
+  pub region-bounds : AreaFits l → (s : Span) → regionOf l i r ≡ gives s → (1 ≤ s .length) × (s .start + s .length ≤ l .length)
+  region-bounds fits s e =
+      let ((line, some), same) = region-exactly s .0 e in
+      subst (λ (x : Span). (1 ≤ x .length) × (x .start + x .length ≤ l .length)) (sym same) (omega (arith, some), region-inside l fits i line r)
+
+-- ---- the parts of a file
+
+-- a span that is given is inside, where every one that may be given is
+inside-given : (f : List ℕ) (x : Answer Span) → ((s : Span) → x ≡ gives s → s .start + s .length ≤ length f) → Inside f x
+inside-given f (gives s) h = h s refl
+inside-given f (refuses n p) h = tt
+
+-- so are those that an accepted AREA file gives
+found-inside : (f : List ℕ) (l : Layout) (own : AreaLayout → Answer Span)
+    → ((a : AreaLayout) → AreaFits a → (s : Span) → own a ≡ gives s → s .start + s .length ≤ a .length) → Inside f (andThen (areaOf f l) own)
+found-inside f l own h =
+    inside-given f (andThen (areaOf f l) own)
+    (λ s e.
+    let (a, found, given) = then-gives own (areaOf f l) s .0 e in
+    let of : AreaOf f a = area-known f l a found in
+    omega (arith, h a (of .fits) s given, of .size))
+
+-- a block that is handed back is inside the file
+pub block-in-file : (f : List ℕ) (l : Layout) (b : Block) → Inside f (blockSpan f l b)
+block-in-file f l b = found-inside f l (λ a. blockOf a b) (λ a fits s e. block-bounds a b fits s e .1)
+
+-- and a region
+pub region-in-file : (f : List ℕ) (l : Layout) (i : ℕ) (r : Region) → Inside f (regionSpan f l i r)
+region-in-file f l i r = found-inside f l (λ a. regionOf a i r) (λ a fits s e. region-bounds a i r fits s e .1)
+
+-- ---- stale layouts
+
+-- a block is refused with 9 exactly where the layout is stale
+pub block-stale : (f : List ℕ) (l : Layout) (b : Block) → (blockSpan f l b ≡ refuses 9 0) ↔ (¬ Fresh f l)
+unfolding blockOf blockRules
+block-stale f l b = area-nine f l (λ a. blockOf a b) (λ a. never-refused (blockRules a b) _ 9 0 (λ e. omega (arith, e), tt))
+
+-- and a region
+pub region-stale : (f : List ℕ) (l : Layout) (i : ℕ) (r : Region) → (regionSpan f l i r ≡ refuses 9 0) ↔ (¬ Fresh f l)
+unfolding regionOf regionRules
+region-stale f l i r =
+    area-nine f l (λ a. regionOf a i r) (λ a. never-refused (regionRules a i r) _ 9 0 (λ e. omega (arith, e), (λ e. omega (arith, e), tt)))

@@ -1,0 +1,4 @@
+mod Fills
+mod Names
+pub mod Records
+pub mod Keys

@@ -1,0 +1,28 @@
+-- `md_parts::record_verdict` meets its contract: the chain of checks is the table of rules.
+-- Assumes nothing.
+use Rattle.refusal.specs.Rules.{chained}
+use Rattle.refusal.proofs.Tables.{by-table}
+use Rattle.md_parts.specs.Records.{recordRules}
+use borrow.Author.Needs.{needs}
+use Rattle.md_parts.proofs.record_verdict.Statement.{statement}
+use Rattle.md_parts.proofs.record_verdict.Tie as tie
+
+within-requires : tie.Need-within-requires
+within-requires c κs = search needs
+
+check-requires : tie.Need-check-requires
+check-requires c κs = search needs
+
+within-requires-2 : tie.Need-within-requires-2
+within-requires-2 c κs = search needs
+
+check-requires-2 : tie.Need-check-requires-2
+check-requires-2 c κs = search needs
+
+returns : tie.Need-returns
+unfolding recordRules chained
+returns c = by-table _ (cc)
+
+pub record-verdict-spec : {M : Type 1} → statement M
+record-verdict-spec =
+    tie.close (tie.spec within-requires check-requires within-requires-2 check-requires-2 returns)

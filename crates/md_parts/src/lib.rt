@@ -1,0 +1,145 @@
+// The parts of an MD file: a complete record copied, and the position of a key by its name.
+use layout::Layout;
+use layout::md_of;
+use md::MdLayout;
+use md::MdOpening;
+use parts::fill_words;
+use places::part_start;
+use refusal::NO_SUCH;
+use refusal::NumberAnswer;
+use refusal::Refusal;
+use refusal::SHORT_OUTPUT;
+use refusal::SizeAnswer;
+use refusal::Verdict;
+use refusal::and;
+use refusal::check;
+use refusal::within;
+ghost use mathlib.Core.Path.{_≡_};
+ghost use Prim.Native.Nat.{_≤_};
+ghost use lib.ListN.{length};
+ghost use Rattle.lists.specs.Lists.{over};
+ghost use Rattle.refusal.specs.Answers.{numberSays, sizeSays};
+ghost use Rattle.refusal.specs.Rules.{firstFault};
+ghost use Rattle.md.specs.Accepts.{MdOf};
+ghost use Rattle.md.specs.Fields.{fieldsOf};
+ghost use Rattle.parts.specs.Runs.{copied};
+ghost use Rattle.md_parts.specs.Records.{partFields, recordFields, IsRecord, recordRules, recordIn, copyRecord};
+ghost use Rattle.md_parts.specs.Keys.{isNamed, keyIn, keyOf};
+
+// Whether there is such a record.
+fn record_verdict(l: MdLayout, row: u32, column: u32) -> Verdict
+    ensures { λ r. ⌜ r ≡ firstFault (recordRules l row column) ⌝ }
+{
+    let rows = check(Verdict::Pass, within(1, l.rows, row), NO_SUCH, 0);
+    check(rows, within(1, l.columns, column), NO_SUCH, 0)
+}
+
+// Fills an output with the fields of the part of an accepted file that coordinates name; it has a place for each of them. The part may have none. An accepted
+// file has the part, so its start is not refused.
+fn fill_part(file: &[u8], l: MdLayout, row: u32, column: u32, out: &mut [i32])
+    requires { ⌜ MdOf (l .order) (now file) l × ((row ≤ l .rows) × ((column ≤ l .columns) × (length (now out) ≡ fieldsOf l row column))) ⌝ }
+    ensures { λ _. ⌜ now (out .exit) ≡ partFields (now (file .entry)) l row column ⌝ }
+{
+    let order = l.order;
+    match part_start(l, row, column) {
+        SizeAnswer::Value(word) => fill_words(order, file, 4 * word, 4, out),
+        SizeAnswer::Refused(_) => {}
+    }
+}
+
+// Fills the first places of an output with a record of an accepted file: row header, column header and data.
+fn fill_record(file: &[u8], l: MdLayout, row: u32, column: u32, out: &mut [i32])
+    requires { ⌜ MdOf (l .order) (now file) l × (IsRecord l row column × (l .keys ≤ length (now out))) ⌝ }
+    ensures { λ _. ⌜ now (out .exit) ≡ over (recordFields (now (file .entry)) l row column) (now (out .entry)) ⌝ }
+{
+    let row_end = l.row_keys as usize;
+    let column_end = row_end + l.column_keys as usize;
+    let data_end = column_end + l.data_keys as usize;
+    fill_part(file, l, row, 0, &mut out[..row_end]);
+    fill_part(file, l, 0, column, &mut out[row_end..column_end]);
+    fill_part(file, l, row, column, &mut out[column_end..data_end]);
+}
+
+// Copies a record of an accepted file. Refused with 7 where there is no such record, then with 10 where the output is too short.
+fn copy_of(file: &[u8], l: MdLayout, row: u32, column: u32, out: &mut [i32]) -> SizeAnswer
+    requires { ⌜ MdOf (l .order) (now file) l ⌝ }
+    ensures { λ r. ⌜ (sizeSays r, now (out .exit)) ≡ copied (recordIn (now (file .entry)) l row column) (now (out .entry)) ⌝ }
+{
+    let keys = l.keys as usize;
+    match record_verdict(l, row, column) {
+        Verdict::Fault(refusal) => SizeAnswer::Refused(refusal),
+        Verdict::Pass => {
+            if out.len() < keys {
+                return SizeAnswer::Refused(Refusal {
+                    number: SHORT_OUTPUT,
+                    place: 0,
+                });
+            }
+            fill_record(file, l, row, column, out);
+            SizeAnswer::Value(keys)
+        }
+    }
+}
+
+// Copies a complete record, that of a row and a column, both counted from 1, of an MD file into the first places of a lent output of signed words: its row
+// header, column header and data. Answers how many words it wrote. Refused with 9 where the layout is stale, then with 7 where it is of another kind, then with 7
+// where there is no such record, then with 10 where the output is too short. A refused copy writes nothing.
+pub fn copy_record(
+    file: &[u8],
+    layout: Layout,
+    row: u32,
+    column: u32,
+    out: &mut [i32],
+) -> SizeAnswer
+    ensures { λ r. ⌜ (sizeSays r, now (out .exit)) ≡ copyRecord (now (file .entry)) layout row column (now (out .entry)) ⌝ }
+{
+    match md_of(file, layout) {
+        MdOpening::Refused(refusal) => SizeAnswer::Refused(refusal),
+        MdOpening::Opened(l) => copy_of(file, l, row, column, out),
+    }
+}
+
+// Whether the key at a position, counted from 1, of an accepted file has a name of four bytes.
+fn is_named(file: &[u8], name: &[u8], position: u32) -> bool
+    requires { ⌜ (16384 ≤ length (now file)) × ((length (now name) ≡ 4) × ((1 ≤ position) × (position ≤ 400))) ⌝ }
+    ensures { λ r. ⌜ r ≡ isNamed (now (file .entry)) (now (name .entry)) position ⌝ }
+{
+    let at = 4 * (464 + (position - 1) as usize);
+    let first = file[at] == name[0];
+    let second = file[at + 1] == name[1];
+    let third = file[at + 2] == name[2];
+    let fourth = file[at + 3] == name[3];
+    and(first, and(second, and(third, fourth)))
+}
+
+// The first position of the key of an accepted file that has a name. Refused with 7 where the name has another length than four, or no key has it.
+fn find_in(file: &[u8], l: MdLayout, name: &[u8]) -> NumberAnswer
+    requires { ⌜ MdOf (l .order) (now file) l ⌝ }
+    ensures { λ r. ⌜ numberSays r ≡ keyIn (now (file .entry)) l (now (name .entry)) ⌝ }
+{
+    let keys = l.keys;
+    let mut position: u32 = 1;
+    if name.len() == 4 {
+        while position <= keys {
+            if is_named(file, name, position) {
+                return NumberAnswer::Value(position);
+            }
+            position += 1;
+        }
+    }
+    NumberAnswer::Refused(Refusal {
+        number: NO_SUCH,
+        place: 0,
+    })
+}
+
+// The first position, counted from 1, of the key that has a name, which is four lent bytes, compared as they are. Refused with 9 where the layout is stale, then
+// with 7 where it is of another kind, then with 7 where the name has another length or no key has it.
+pub fn find_key(file: &[u8], layout: Layout, name: &[u8]) -> NumberAnswer
+    ensures { λ r. ⌜ numberSays r ≡ keyOf (now (file .entry)) layout (now (name .entry)) ⌝ }
+{
+    match md_of(file, layout) {
+        MdOpening::Refused(refusal) => NumberAnswer::Refused(refusal),
+        MdOpening::Opened(l) => find_in(file, l, name),
+    }
+}

@@ -1,0 +1,109 @@
+-- `parts::halfwords_by_fours` meets its contract: the invariant is that the first i places hold the first i numbers. The rest is filled one by one.
+-- Assumes nothing.
+use Prim.Native.Nat.{_+_, _-_, _*_, _^_, _<_}
+use native.Mathlib.Omega.{arith}
+use Rattle.endian.specs.Numbers.{numberAt}
+use Rattle.endian.specs.declared.Order.the-variants.{Big}
+use Rattle.parts.proofs.Runs.{Filled, none-filled, inside-further, four-filled, rest-inside, rest-filled}
+use Rattle.parts.proofs.halfwords_by_fours.Statement.{statement}
+use Rattle.parts.proofs.halfwords_by_fours.Tie as tie
+
+abbrev Inv-loop : tie.InvT-loop
+Inv-loop file at step out₀ n i₀ out i = Filled (numberAt Big 2 file) at step i out₀ out × (at + i * step < 2 ^ 64)
+
+abbrev μ-loop : tie.MeasureT-loop
+μ-loop file at step out₀ n i₀ out i = n - i
+
+loop-holds : tie.Need-loop-holds Inv-loop μ-loop
+loop-holds c = (none-filled _ _ _ _, omega arith)
+
+add-loop : tie.Need-add-loop Inv-loop μ-loop
+add-loop c = omega arith
+
+add-end : tie.Need-add-end Inv-loop μ-loop
+add-end c = omega arith
+
+mul-four-halfwords : tie.Need-mul-four-halfwords Inv-loop μ-loop
+mul-four-halfwords c = omega arith
+
+add-four-halfwords : tie.Need-add-four-halfwords Inv-loop μ-loop
+add-four-halfwords c = omega arith
+
+mul-four-halfwords-2 : tie.Need-mul-four-halfwords-2 Inv-loop μ-loop
+mul-four-halfwords-2 c = omega arith
+
+sub-four-halfwords : tie.Need-sub-four-halfwords Inv-loop μ-loop
+sub-four-halfwords c = omega arith
+
+part-four-halfwords-start : tie.Need-part-four-halfwords-start Inv-loop μ-loop
+part-four-halfwords-start c = omega arith
+
+part-four-halfwords-end : tie.Need-part-four-halfwords-end Inv-loop μ-loop
+part-four-halfwords-end c = omega arith
+
+four-halfwords-requires : tie.Need-four-halfwords-requires Inv-loop μ-loop
+four-halfwords-requires c κs = (omega arith, inside-further _ _ 2 _ _ (c .before .before .before .before .before .pre) (c .before .before .loop .i) 3 (omega arith))
+
+loop-less : tie.Need-loop-less Inv-loop μ-loop
+loop-less c = omega arith
+
+loop-again : tie.Need-loop-again Inv-loop μ-loop
+loop-again c =
+    four-filled (c .before .before .before .before .before .loop .inv .0) 2 _ (c .before .before .before .before .before .before .before .before .pre) (omega arith)
+    (c .before .before .before .before .loop-test .taken)
+    (c .before .before .four-halfwords .ensures)
+
+mul-numbers-singly : tie.Need-mul-numbers-singly Inv-loop μ-loop
+mul-numbers-singly c = omega arith
+
+add-numbers-singly : tie.Need-add-numbers-singly Inv-loop μ-loop
+add-numbers-singly c = omega arith
+
+mul-numbers-singly-2 : tie.Need-mul-numbers-singly-2 Inv-loop μ-loop
+mul-numbers-singly-2 c = omega arith
+
+sub-numbers-singly : tie.Need-sub-numbers-singly Inv-loop μ-loop
+sub-numbers-singly c = omega arith
+
+part-numbers-singly-start : tie.Need-part-numbers-singly-start Inv-loop μ-loop
+part-numbers-singly-start c = omega arith
+
+part-numbers-singly-end : tie.Need-part-numbers-singly-end Inv-loop μ-loop
+part-numbers-singly-end c = omega arith
+
+numbers-singly-requires : tie.Need-numbers-singly-requires Inv-loop μ-loop
+numbers-singly-requires c κs = (omega arith, rest-inside (c .before .before .loop .inv .0) 2 _ (c .before .before .before .before .before .pre))
+
+same-length : tie.Need-same-length Inv-loop μ-loop
+same-length c = omega arith
+
+returns : tie.Need-returns Inv-loop μ-loop
+returns c = rest-filled (c .before .before .before .before .before .loop .inv .0) (c .before .before .numbers-singly .ensures)
+
+pub halfwords-by-fours-spec : {M : Type 1} → statement M
+halfwords-by-fours-spec =
+    tie.close
+    (tie.spec
+    Inv-loop
+    μ-loop
+    loop-holds
+    add-loop
+    add-end
+    mul-four-halfwords
+    add-four-halfwords
+    mul-four-halfwords-2
+    sub-four-halfwords
+    part-four-halfwords-start
+    part-four-halfwords-end
+    four-halfwords-requires
+    loop-less
+    loop-again
+    mul-numbers-singly
+    add-numbers-singly
+    mul-numbers-singly-2
+    sub-numbers-singly
+    part-numbers-singly-start
+    part-numbers-singly-end
+    numbers-singly-requires
+    same-length
+    returns)

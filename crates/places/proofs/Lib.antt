@@ -1,0 +1,5 @@
+pub mod Bounds
+pub mod Tables
+pub mod Sizes
+pub mod Places
+pub mod Refusals

@@ -1,0 +1,226 @@
+-- The stores of single values give what the theory of stores asks of a file format, so the order of stores does not matter: demand 3. A store that succeeds
+-- writes at the place that the single read names; opening reads none of these bytes; places are on one lattice.
+-- Assumes nothing.
+use mathlib.Core.Path.{_≡_, refl, sym, ap, ap₂, _∙_}
+use mathlib.Core.Logic.{inl}
+use mathlib.Core.List.{List}
+use Prim.Native.Nat.{ℕ, _+_, _*_, _^_, _≤_, _<_}
+use native.Mathlib.Omega.{arith}
+use lib.IntN.{ℤ}
+use lib.ListN.{length, getD}
+use lib.Seq.{sets, length-sets}
+use mir.Syntax.{w32}
+use mir.Val.{toZ, ofZ, SFits}
+use mir.Facts.{toZ-ofZ}
+use borrow.Author.Tests.{ltb-true}
+use Rattle.lists.specs.Lists.{part}
+use Rattle.lists.proofs.Stores.{sets-outside}
+use Rattle.endian.specs.Numbers.{encode, numberAt}
+use Rattle.endian.specs.Words.{signedAt, wordAt}
+use Rattle.endian.specs.declared.Order.{Order}
+use Rattle.endian.proofs.Numbers.{length-encode}
+use Rattle.endian.proofs.Places.{number-held, number-frame, word-number, words-apart}
+use Rattle.refusal.specs.Answers.{Answer, gives, refuses, mapped}
+use Rattle.plan.specs.Plans.{write, Holds}
+use Rattle.plan.specs.Formats.{Writes, FormatLaws}
+use Rattle.plan.proofs.Formats.{pick-write, demand3}
+use Rattle.area.specs.Opening.{openArea}
+use Rattle.area.specs.declared.AreaLayout.{AreaLayout}
+use Rattle.area.proofs.Facts.{area-of}
+use Rattle.area.proofs.Footprint.{area-footprint}
+use Rattle.area.proofs.Samples.{sample-directory}
+use Rattle.grid.specs.Points.{pointWord}
+use Rattle.grid.proofs.Facts.{store-frame}
+use Rattle.grid_rules.specs.Opening.{openGrid}
+use Rattle.md.proofs.Facts.{md-of}
+use Rattle.md.proofs.Fields.{field-high}
+use Rattle.md.proofs.Footprint.{md-footprint}
+use Rattle.layout.specs.Layouts.{Kind, area, grid, md, openAs, kindOf, orderOf, Fresh}
+use Rattle.layout.specs.declared.Layout.{Layout}
+use Rattle.layout.specs.declared.Layout.the-variants.{Area, Grid, Md}
+use Rattle.layout.proofs.Freshness.{that-exactly}
+use Rattle.places.specs.Places.{placeOf}
+use Rattle.places.specs.declared.Place.{Place}
+use Rattle.places.specs.declared.What.{What}
+use Rattle.places.proofs.Places.{Located, sample-at, point-at, field-at, located, place-inside, base, wide, place-lattice}
+use Rattle.values.specs.Reading.{placeIn, readSample, readWord}
+use Rattle.values.specs.Stores.{unsigned, signed, Request, sample, point, field, Store, whatOf, numberIn, bitsOf, InType, Done, putAt, putIn, within, readBack, stores, OrderDoesNotMatter}
+use Rattle.values.proofs.Reading.{word-width, place-exactly}
+
+-- ---- a store that writes
+
+-- it has a place, and writes there the bytes of its number, which fits them
+record Put (o : Order) (n : ℕ) (x : Answer Place) (a : ℕ) (b : List ℕ) : Type 0 where
+  place : Place
+  given : x ≡ gives place
+  address : a ≡ place .address
+  bytes : b ≡ encode o (place .width) n
+  small : n < 256 ^ place .width
+
+-- equal plans that write have one address and the same bytes
+write-same : {r q : Done} {a c : ℕ} {b d : List ℕ} → write r a b ≡ write q c d → (a ≡ c) × (b ≡ d)
+write-same e = (cc, cc)
+
+put : (o : Order) (n : ℕ) (x : Answer Place) (r : Done) (a : ℕ) (b : List ℕ) → putIn o n x ≡ write r a b → Put o n x a b
+unfolding putAt
+put o n (refuses k q) r a b e = let z : _≡_ {A = ℕ} 0 1 = cc in let y : ⊥ = omega arith in absurd y
+put o n (gives p) r a b e =
+    let (fits, same) = pick-write _ _ _ r a b e in
+    let (address, bytes) = write-same same in
+    record { place = p; given = refl; address = sym address; bytes = sym bytes; small = ltb-true n (256 ^ p .width) fits }
+
+-- the layout, the name and the number of a store
+abbrev orderIn : Store → Order
+orderIn s = orderOf (s .layout)
+
+abbrev bitsIn : Store → ℕ
+bitsIn s = bitsOf (numberIn (s .request))
+
+-- a store that succeeds: what it puts, and where
+record Stored (f : List ℕ) (s : Store) (a : ℕ) (b : List ℕ) : Type 0 where
+  place : Place
+  fresh : Fresh f (s .layout)
+  at : Located f (s .layout) (whatOf (s .request)) place
+  address : a ≡ place .address
+  bytes : b ≡ encode (orderIn s) (place .width) (bitsIn s)
+  small : bitsIn s < 256 ^ place .width
+
+stored : {f : List ℕ} {s : Store} {a : ℕ} {b : List ℕ} → Writes stores f s a b → Stored f s a b
+unfolding within
+stored {f} {s} {a} {b} w =
+    let p = put (orderIn s) (bitsIn s) (placeOf (s .layout) (whatOf (s .request))) (w .told) a b (w .planned) in
+    record {
+      place = p .place;
+      fresh = w .fresh;
+      at = located f (s .layout) (whatOf (s .request)) (p .place) (w .fresh) (p .given);
+      address = p .address;
+      bytes = p .bytes;
+      small = p .small;
+    }
+
+module _ {f : List ℕ} {s : Store} {a : ℕ} {b : List ℕ} (w : Stored f s a b) where
+  -- it writes as many bytes as its place has
+  size : length b ≡ w .place .width
+  size = ap length (w .bytes) ∙ length-encode (orderIn s) (w .place .width) (bitsIn s)
+
+  -- inside the file
+  inside : a + length b ≤ length f
+  inside = omega (arith, w .address, size, place-inside (w .at))
+
+-- ---- opening answers as before
+
+-- a byte that is stored from 256 on leaves those below 256
+below : (f b : List ℕ) (a : ℕ) → 256 ≤ a → (i : ℕ) → i < 256 → getD (sets f a b) i 0 ≡ getD f i 0
+below f b a h i lt = sets-outside b f a i 0 (inl (omega arith))
+
+-- a word that is stored leaves every other word
+other-words : (o : Order) (f : List ℕ) (k n x : ℕ) → ¬ (x ≡ k) → wordAt o (sets f (4 * k) (encode o 4 n)) x ≡ wordAt o f x
+other-words o f k n x other =
+    word-number o (sets f (4 * k) (encode o 4 n)) x
+    ∙ number-frame o o 4 4 f (4 * k) n (4 * x) (words-apart x k other)
+    ∙ sym (word-number o f x)
+
+-- by kind
+frame-at : {f : List ℕ} {l : Layout} {x : What} {p : Place} → Located f l x p → (n g : ℕ)
+    → openAs (kindOf l) (orderOf l) g (sets f (p .address) (encode (orderOf l) (p .width) n)) ≡ openAs (kindOf l) (orderOf l) g f
+unfolding openAs
+frame-at {f} (sample-at {l} {i} {e} {s} {p = p} opens slot is at) n g =
+    let b = encode (l .order) (p .width) n in
+    let high : 256 ≤ p .address = omega (arith, ap (λ (q : Place). q .address) at, sample-directory l (area-of f l opens .fits) i e s is) in
+    ap (mapped Area) (area-footprint (sets f (p .address) b) f (length-sets f (p .address) b) (below f b (p .address) high))
+frame-at {f} (field-at {l} {r} {c} {k} {p} opens is at) n g =
+    let b = encode (l .order) (p .width) n in
+    let high : 256 ≤ p .address = omega (arith, ap (λ (q : Place). q .address) at, field-high (md-of (l .order) f l opens .fits) is) in
+    ap (mapped Md) (md-footprint (l .order) (sets f (p .address) b) f (length-sets f (p .address) b) (below f b (p .address) high))
+frame-at {f} (point-at {l} {r} {c} {p} opens is at) n g =
+    let k : ℕ = pointWord l r c in
+    let b = encode (l .order) 4 n in
+    ap (λ (q : Place). mapped Grid (openGrid (l .order) (sets f (q .address) (encode (l .order) (q .width) n)) g)) at
+    ∙ ap (mapped Grid)
+    (store-frame (l .order) f (sets f (4 * k) b) (l .number) l opens r c is (length-sets f (4 * k) b) (other-words (l .order) f k n) g)
+
+frame : {f : List ℕ} {s : Store} {a : ℕ} {b : List ℕ} → Stored f s a b → (g : ℕ)
+    → openAs (kindOf (s .layout)) (orderOf (s .layout)) g (sets f a b) ≡ openAs (kindOf (s .layout)) (orderOf (s .layout)) g f
+frame {f} {s} {a} {b} w g =
+    ap₂ (λ (x : ℕ) (y : List ℕ). openAs (kindOf (s .layout)) (orderOf (s .layout)) g (sets f x y)) (w .address) (w .bytes) ∙ frame-at (w .at) (bitsIn s) g
+
+-- ---- one lattice
+
+-- the byte from which the places of a file and a kind are counted, and how wide each is: those of the layout that opening gives
+baseOf : Answer AreaLayout → ℕ
+baseOf (gives l) = l .start
+baseOf (refuses n p) = 0
+
+wideOf : Answer AreaLayout → ℕ
+wideOf (gives l) = l .width
+wideOf (refuses n p) = 0
+
+baseIn : List ℕ → Kind → ℕ
+baseIn f area = baseOf (openArea f)
+baseIn f grid = 0
+baseIn f md = 0
+
+wideIn : List ℕ → Kind → ℕ
+wideIn f area = wideOf (openArea f)
+wideIn f grid = 4
+wideIn f md = 4
+
+-- by kind
+same-lattice : {f : List ℕ} {l : Layout} {x : What} {p : Place} → Located f l x p → (base l ≡ baseIn f (kindOf l)) × (wide l ≡ wideIn f (kindOf l))
+unfolding baseIn wideIn baseOf wideOf
+same-lattice (sample-at opens slot is at) = (sym (ap baseOf opens), sym (ap wideOf opens))
+same-lattice (point-at opens is at) = (refl, refl)
+same-lattice (field-at opens is at) = (refl, refl)
+
+lattice : {f : List ℕ} {s : Store} {a : ℕ} {b : List ℕ} → Stored f s a b
+    → (j : ℕ) × (a ≡ baseIn f (kindOf (s .layout)) + j * wideIn f (kindOf (s .layout))) × (length b ≡ wideIn f (kindOf (s .layout)))
+lattice w =
+    let (j, at, wide) = place-lattice (w .at) in
+    let (same-base, same-wide) = same-lattice (w .at) in
+    (j, w .address ∙ at ∙ ap₂ (λ (x y : ℕ). x + j * y) same-base same-wide, size w ∙ wide ∙ same-wide)
+
+-- ---- reading back
+
+-- where a place holds a store's bytes, the number there is the store's
+module _ {f : List ℕ} {s : Store} {a : ℕ} {b : List ℕ} (w : Stored f s a b) (h : Holds f a b) where
+  held : numberAt (orderIn s) (w .place .width) f (w .place .address) ≡ bitsIn s
+  held =
+      number-held (orderIn s) (w .place .width) f (w .place .address) (bitsIn s)
+      (sym (ap₂ (λ (x y : ℕ). part x y f) (w .address) (size w)) ∙ h ∙ w .bytes)
+      (w .small)
+
+  here : placeIn f (s .layout) (whatOf (s .request)) ≡ gives (w .place)
+  here = place-exactly f (s .layout) (whatOf (s .request)) (w .place) .1 (w .fresh, w .at)
+
+-- a signed word
+held-word : {f : List ℕ} {s : Store} {a : ℕ} {b : List ℕ} (v : ℤ) (w : Stored f s a b) → Holds f a b → bitsIn s ≡ ofZ w32 v → SFits w32 v
+    → w .place .width ≡ 4 → signedAt (orderIn s) f (w .place .address) ≡ v
+held-word {f} {s} v w h bits typed four =
+    ap (λ (n : ℕ). toZ w32 (numberAt (orderIn s) n f (w .place .address))) (sym four) ∙ ap (toZ w32) (held w h ∙ bits) ∙ toZ-ofZ typed
+
+-- the single read gives it
+reads : (f : List ℕ) (l : Layout) (q : Request) {a : ℕ} {b : List ℕ} → InType (numberIn q) → Stored f (record { layout = l; request = q }) a b → Holds f a b
+    → readBack f l q ≡ gives (numberIn q)
+unfolding readSample readWord
+reads f l (sample i e c n) typed w h = rw (here w h) (ap (λ (x : ℕ). gives (unsigned x)) (held w h))
+reads f l (point r c v) typed w h = rw (here w h) (ap (λ (x : ℤ). gives (signed x)) (held-word v w h refl typed (word-width (w .at) tt)))
+reads f l (field r c k v) typed w h = rw (here w h) (ap (λ (x : ℤ). gives (signed x)) (held-word v w h refl typed (word-width (w .at) tt)))
+
+-- ---- demand 3
+
+-- what the theory of stores asks of a format
+pub store-laws : FormatLaws stores
+store-laws =
+    record {
+      exact = λ s x. let e = that-exactly (s .layout) x in (e .sound, e .complete);
+      inside = λ w. inside (stored w);
+      frame = λ w g. frame (stored w) g;
+      base = λ f k. baseIn f (k .kind);
+      width = λ f k. wideIn f (k .kind);
+      lattice = λ w. lattice (stored w);
+      reads = λ {f} {s} w h. reads f (s .layout) (s .request) (w .typed) (stored w) h;
+    }
+
+-- Demand 3: of any file, and any list of stores of single values with layouts of one kind and byte order, no two of which succeed at the same place.
+pub order-does-not-matter : OrderDoesNotMatter
+order-does-not-matter kind order = demand3 stores store-laws (record { kind = kind; order = order })

@@ -1,0 +1,115 @@
+-- What a store of a single value does: document 01, "What comes back". It refuses 9, then 7 for its kind, then 4 at 19 where a band is named, then the other
+-- 7s, as the single read does, and then 8 for a sample above W11 bytes. Otherwise the number's bytes stand at its place, in the file's order.
+--
+-- Demand 3 is stated of these stores.
+-- Assumes nothing.
+use mathlib.Core.List.{List}
+use Prim.Native.Nat.{ℕ, _^_, _<_}
+use lib.Dec.{ltb}
+use lib.IntN.{ℤ}
+use mir.Syntax.{w32}
+use mir.Val.{ofZ, SFits}
+use Rattle.lists.specs.Choices.{pick}
+use Rattle.endian.specs.Numbers.{encode}
+use Rattle.endian.specs.declared.Order.{Order}
+use Rattle.refusal.specs.Answers.{Answer, gives, refuses, mapped}
+use Rattle.plan.specs.Plans.{Plan, write, refuse}
+use Rattle.plan.specs.Formats.{Format, plan, system}
+use Rattle.plan.specs.Claims.{Demand3}
+use Rattle.layout.specs.Layouts.{Kind, openAs, kindOf, orderOf, numberOf, givesThat}
+use Rattle.layout.specs.declared.Layout.{Layout}
+use Rattle.bands.specs.declared.Channel.{Channel}
+use Rattle.places.specs.Places.{placeOf}
+use Rattle.places.specs.declared.Place.{Place}
+use Rattle.places.specs.declared.What.{What}
+use Rattle.places.specs.declared.What.the-variants.{Sample, Point, Field}
+use Rattle.values.specs.Reading.{readSample, readWord}
+
+-- a number to store, and that a read answers: "0 to 4,294,967,295 for AREA and a signed word otherwise"
+pub data Number : Type 0 where
+  unsigned : ℕ → Number
+  signed : ℤ → Number
+
+-- the three calls that store one value, with what each is asked
+pub data Request : Type 0 where
+  sample : ℕ → ℕ → Channel → ℕ → Request
+  point : ℕ → ℕ → ℤ → Request
+  field : ℕ → ℕ → ℕ → ℤ → Request
+
+-- a store: a layout, and what is asked
+pub record Store : Type 0 where
+  pub layout : Layout
+  pub request : Request
+
+-- the name of the value
+abbrev pub whatOf : Request → What
+whatOf (sample i e c n) = Sample i e c
+whatOf (point r c v) = Point r c
+whatOf (field r c k v) = Field r c k
+
+-- its number
+abbrev pub numberIn : Request → Number
+numberIn (sample i e c n) = unsigned n
+numberIn (point r c v) = signed v
+numberIn (field r c k v) = signed v
+
+-- the unsigned number that its bits are
+abbrev pub bitsOf : Number → ℕ
+bitsOf (unsigned n) = n
+bitsOf (signed v) = ofZ w32 v
+
+-- the number is one that the type of the argument has
+abbrev pub InType : Number → Type 0
+InType (unsigned n) = n < 2 ^ 32
+InType (signed v) = SFits w32 v
+
+-- what a store is answered: that it is done, or a refusal
+abbrev pub Done : Type 0
+Done = Answer (Unit {0})
+
+-- a number that is put at a place: 8 where it does not fit the place's bytes
+unfoldable pub putAt : Order → ℕ → Place → Plan Done
+putAt o n p = pick (ltb n (256 ^ p .width)) (write (gives tt) (p .address) (encode o (p .width) n)) (refuse (refuses 8 0))
+
+-- a store with a fresh layout, by its place
+abbrev pub putIn : Order → ℕ → Answer Place → Plan Done
+putIn o n (gives p) = putAt o n p
+putIn o n (refuses k q) = refuse (refuses k q)
+
+unfoldable pub within : Store → Plan Done
+within s = putIn (orderOf (s .layout)) (bitsOf (numberIn (s .request))) (placeOf (s .layout) (whatOf (s .request)))
+
+-- the single read of a store's place with its layout
+abbrev pub readBack : List ℕ → Layout → Request → Answer Number
+readBack f l (sample i e c n) = mapped unsigned (readSample f l i e c)
+readBack f l (point r c v) = mapped signed (readWord f l (Point r c))
+readBack f l (field r c k v) = mapped signed (readWord f l (Field r c k))
+
+-- a key is one kind and one byte order
+pub record Key : Type 0 where
+  pub kind : Kind
+  pub order : Order
+
+-- the stores of single values, of all three kinds
+abbrev pub stores : Format Store Key (Answer Layout) Done (Answer Number)
+stores =
+    record {
+      key = λ s. record { kind = kindOf (s .layout); order = orderOf (s .layout) };
+      grid = λ s. numberOf (s .layout);
+      Typed = λ s. InType (numberIn (s .request));
+      open-as = λ f k g. openAs (k .kind) (k .order) g f;
+      layout = λ s. gives (s .layout);
+      same = λ s x. givesThat (s .layout) x;
+      stale = refuses 9 0;
+      within = within;
+      read = λ f s. readBack f (s .layout) (s .request);
+      number = λ s. gives (numberIn (s .request));
+    }
+
+-- what a store does to a file: 9 where its layout is stale
+abbrev pub planOf : List ℕ → Store → Plan Done
+planOf = plan stores
+
+-- Demand 3 of the stores of single values, for each kind and byte order: see `Demand3` and `OrderFree`.
+abbrev pub OrderDoesNotMatter : Type 0
+OrderDoesNotMatter = (kind : Kind) (order : Order) → Demand3 (system stores (record { kind = kind; order = order }))

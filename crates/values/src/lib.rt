@@ -1,0 +1,113 @@
+// The values of a file: where a named value lies, and the single read of every kind.
+use bands::Channel;
+use endian::Order;
+use endian::read_number;
+use endian::read_signed;
+use layout::Layout;
+use layout::is_fresh;
+use places::PlaceAnswer;
+use places::What;
+use places::place_of;
+use refusal::NumberAnswer;
+use refusal::Refusal;
+use refusal::STALE;
+use refusal::WordAnswer;
+ghost use mathlib.Core.Path.{_≡_};
+ghost use Rattle.refusal.specs.Answers.{numberSays, wordSays};
+ghost use Rattle.layout.specs.Layouts.{orderOf};
+ghost use Rattle.places.specs.Places.{placeSays};
+ghost use Rattle.values.specs.Reading.{placeIn, readSample, IsWord, readWord, readPoint, readField};
+
+// The byte order of a layout.
+fn order_of(layout: Layout) -> Order
+    ensures { λ r. ⌜ r ≡ orderOf layout ⌝ }
+{
+    match layout {
+        Layout::Area(l) => l.order,
+        Layout::Grid(l) => l.order,
+        Layout::Md(l) => l.order,
+    }
+}
+
+// Where a named value lies in a file. Refused with 9 where the layout is stale, then with 7 where it is of another kind than the name, then with 4 at 19 where
+// a band is named and the band map is unusable, then with 7 where there is no such line, element, slot, band, point or field.
+pub fn place_in(file: &[u8], layout: Layout, what: What) -> PlaceAnswer
+    ensures { λ r. ⌜ placeSays r ≡ placeIn (now (file .entry)) layout what ⌝ }
+{
+    if is_fresh(file, layout) {
+        place_of(layout, what)
+    } else {
+        PlaceAnswer::Refused(Refusal {
+            number: STALE,
+            place: 0,
+        })
+    }
+}
+
+// The sample of a line and an element, both counted from 0, and a channel of an AREA file: an unsigned number. Refused as `place_in`.
+pub fn read_sample(
+    file: &[u8],
+    layout: Layout,
+    line: u32,
+    element: u32,
+    channel: Channel,
+) -> NumberAnswer
+    ensures { λ r. ⌜ numberSays r ≡ readSample (now (file .entry)) layout line element channel ⌝ }
+{
+    let order = order_of(layout);
+    let what = What::Sample {
+        line: line,
+        element: element,
+        channel: channel,
+    };
+    match place_in(file, layout, what) {
+        PlaceAnswer::At(place) => NumberAnswer::Value(read_number(
+            order,
+            place.width,
+            file,
+            place.address,
+        )),
+        PlaceAnswer::Refused(refusal) => NumberAnswer::Refused(refusal),
+    }
+}
+
+// The signed word of a point or a field.
+fn read_word_of(file: &[u8], layout: Layout, what: What) -> WordAnswer
+    requires { ⌜ IsWord what ⌝ }
+    ensures { λ r. ⌜ wordSays r ≡ readWord (now (file .entry)) layout what ⌝ }
+{
+    let order = order_of(layout);
+    match place_in(file, layout, what) {
+        PlaceAnswer::At(place) => WordAnswer::Value(read_signed(order, file, place.address)),
+        PlaceAnswer::Refused(refusal) => WordAnswer::Refused(refusal),
+    }
+}
+
+// The point of a row and a column, both counted from 1, of a grid: a signed word. Refused as `place_in`.
+pub fn read_point(file: &[u8], layout: Layout, row: u32, column: u32) -> WordAnswer
+    ensures { λ r. ⌜ wordSays r ≡ readPoint (now (file .entry)) layout row column ⌝ }
+{
+    read_word_of(
+        file,
+        layout,
+        What::Point {
+            row: row,
+            column: column,
+        },
+    )
+}
+
+// The field at a position, counted from 1, of the part of an MD file that coordinates name: a signed word. Refused as `place_in`.
+pub fn read_field(file: &[u8], layout: Layout, row: u32, column: u32, position: u32) -> WordAnswer
+    ensures { λ r. ⌜ wordSays r ≡ readField (now (file .entry)) layout row column position ⌝ }
+{
+    read_word_of(
+        file,
+        layout,
+        What::Field {
+            row: row,
+            column: column,
+            position: position,
+        },
+    )
+}

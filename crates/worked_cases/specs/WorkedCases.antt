@@ -1,0 +1,52 @@
+-- The cases that document 01, "Worked files", marks to be proved, all of them, each with its text. They are stated of what the contracts of the public calls
+-- cite: opening (openArea, openGrid, openMd), the place of a named value (placeIn), the extent of a block (blockSpan).
+-- Assumes nothing.
+use mathlib.Core.Path.{_≡_}
+use lib.ListN.{take}
+use Rattle.endian.specs.declared.Order.the-variants.{Big}
+use Rattle.refusal.specs.Answers.{gives, refuses}
+use Rattle.area.specs.Opening.{openArea}
+use Rattle.area.specs.Worked.{P, fileB, B, layoutP, layoutB}
+use Rattle.area.specs.declared.Block.the-variants.{Nav}
+use Rattle.grid.specs.Worked.{fileG, G, layoutG}
+use Rattle.grid_rules.specs.Opening.{openGrid}
+use Rattle.md.specs.Opening.{openMd}
+use Rattle.md.specs.Worked.{fileM, M, layoutM}
+use Rattle.layout.specs.declared.Layout.the-variants.{Area, Grid, Md}
+use Rattle.bands.specs.declared.Channel.the-variants.{Slot}
+use Rattle.places.specs.Places.{place, wordPlace}
+use Rattle.places.specs.declared.What.the-variants.{Sample, Point, Field}
+use Rattle.values.specs.Reading.{placeIn}
+use Rattle.parts.specs.Spans.{span}
+use Rattle.area_parts.specs.Spans.{blockSpan}
+
+pub record WorkedCases : Type 0 where
+  -- the layouts are those that opening gives
+  pub P-opens : openArea P ≡ gives layoutP
+  pub B-opens : openArea B ≡ gives layoutB
+  pub G-opens : openGrid Big G 1 ≡ gives layoutG
+  pub M-opens : openMd Big M ≡ gives layoutM
+  -- "P line 1, element 2, slot 0: byte 262."
+  pub P-sample : placeIn P (Area layoutP) (Sample 1 2 (Slot 0)) ≡ gives (place 262 1)
+  -- "P cut to 263 bytes: 5 at 34."
+  pub P-cut : openArea (take 263 P) ≡ refuses 5 34
+  -- "B line 1, element 2, slot 1: byte 438."
+  pub B-sample : placeIn B (Area layoutB) (Sample 1 2 (Slot 1)) ≡ gives (place 438 2)
+  -- "B's NAV: 256, length 128."
+  pub B-nav : blockSpan B (Area layoutB) Nav ≡ gives (span 256 128)
+  -- "B with W35=384: 5 at 35."
+  pub B-nav-in-data : openArea (fileB 384 16) ≡ refuses 5 35
+  -- "B with W15=12: 4 at 15."
+  pub B-prefix : openArea (fileB 256 12) ≡ refuses 4 15
+  -- "G point (2,3): word 83."
+  pub G-point : placeIn G (Grid layoutG) (Point 2 3) ≡ gives (wordPlace 83)
+  -- "G's slot 2 set to 83: 5 at 12."
+  pub G-overlap : openGrid Big (fileG 83) 1 ≡ refuses 5 12
+  -- "G, grid 2: refusal 6."
+  pub G-empty : openGrid Big G 2 ≡ refuses 6 0
+  -- "M field 3 of (2,3): word 4120."
+  pub M-data : placeIn M (Md layoutM) (Field 2 3 3) ≡ gives (wordPlace 4120)
+  -- "M field 2 of (2,0): word 4099."
+  pub M-row : placeIn M (Md layoutM) (Field 2 0 2) ≡ gives (wordPlace 4099)
+  -- "M with word 28 = 4099: 4 at 28."
+  pub M-word-28 : openMd Big (fileM 4099) ≡ refuses 4 28
