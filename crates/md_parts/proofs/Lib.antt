@@ -1,4 +1,2 @@
 mod Fills
-mod Names
 pub mod Records
-pub mod Keys

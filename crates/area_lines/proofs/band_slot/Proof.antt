@@ -1,8 +1,8 @@
--- `area_parts::band_slot` meets its contract: the layout that is found has the slot, and a refusal is passed on.
+-- `area_lines::band_slot` meets its contract: the layout that is found has the slot, and a refusal is passed on.
 -- Assumes nothing.
 use borrow.Author.Needs.{needs}
-use Rattle.area_parts.proofs.band_slot.Statement.{statement}
-use Rattle.area_parts.proofs.band_slot.Tie as tie
+use Rattle.area_lines.proofs.band_slot.Statement.{statement}
+use Rattle.area_lines.proofs.band_slot.Tie as tie
 
 area-of-requires : tie.Need-area-of-requires
 area-of-requires c κs = search needs

@@ -1,4 +1,4 @@
--- `area_parts::copy_channel` meets its contract: the line is a run from the place of its element 0 on.
+-- `area_lines::copy_channel` meets its contract: the line is a run from the place of its element 0 on.
 -- Assumes nothing.
 use mathlib.Core.Path.{_≡_, sym, ap, _∙_}
 use native.Mathlib.Nat.{mul-le-mul}
@@ -8,10 +8,10 @@ use Rattle.refusal.specs.Answers.{mapped}
 use Rattle.area.proofs.Samples.{width-to}
 use Rattle.parts.specs.Runs.{copied}
 use Rattle.places.specs.Places.{placeSays, samplePlace, placeOf}
-use Rattle.area_parts.proofs.Lines.{runFrom, line-from, run-inside}
+use Rattle.area_lines.proofs.Lines.{runFrom, line-from, run-inside}
 use borrow.Author.Needs.{needs}
-use Rattle.area_parts.proofs.copy_channel.Statement.{statement}
-use Rattle.area_parts.proofs.copy_channel.Tie as tie
+use Rattle.area_lines.proofs.copy_channel.Statement.{statement}
+use Rattle.area_lines.proofs.copy_channel.Tie as tie
 
 -- the answer of `place_of` is the place of element 0
 first : (c : tie.After-place-of) → let a = c .before .before .before .args in placeSays (c .place-of .result) ≡ samplePlace (a .l) (a .line) 0 (a .channel)

@@ -17,7 +17,7 @@ use Rattle.lists.proofs.Kept.{keep-append}
 use Rattle.refusal.specs.Answers.{gives, refuses}
 use Rattle.refusal.specs.Tests.{sameNumbers}
 use Rattle.md.specs.declared.MdLayout.{MdLayout}
-use Rattle.md_parts.specs.Keys.{isNamed, positions, firstOf, keyIn}
+use Rattle.md_keys.specs.Keys.{isNamed, positions, firstOf, keyIn}
 
 -- ---- four bytes
 

@@ -1,11 +1,11 @@
--- `md_parts::is_named` meets its contract: the name is compared byte by byte.
+-- `md_keys::is_named` meets its contract: the name is compared byte by byte.
 -- Assumes nothing.
 use native.Mathlib.Omega.{arith}
 use denote.Ref.{now}
-use Rattle.md_parts.proofs.Names.{four-same}
+use Rattle.md_keys.proofs.Names.{four-same}
 use borrow.Author.Needs.{needs}
-use Rattle.md_parts.proofs.is_named.Statement.{statement}
-use Rattle.md_parts.proofs.is_named.Tie as tie
+use Rattle.md_keys.proofs.is_named.Statement.{statement}
+use Rattle.md_keys.proofs.is_named.Tie as tie
 
 sub-at : tie.Need-sub-at
 sub-at c = search needs

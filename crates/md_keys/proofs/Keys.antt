@@ -20,8 +20,8 @@ use Rattle.layout.specs.Found.{mdOf}
 use Rattle.layout.specs.declared.Layout.{Layout}
 use Rattle.layout.specs.declared.Layout.the-variants.{Md}
 use Rattle.layout.proofs.OneKind.{md-found, md-nine}
-use Rattle.md_parts.specs.Keys.{keyName, isNamed, keyIn, keyOf}
-use Rattle.md_parts.proofs.Names.{NoneBelow, First, searched, name-found, name-none, name-other}
+use Rattle.md_keys.specs.Keys.{keyName, isNamed, keyIn, keyOf}
+use Rattle.md_keys.proofs.Names.{NoneBelow, First, searched, name-found, name-none, name-other}
 
 -- a test that tells a statement exactly, where the statement does not hold
 told-false : {t : Bool} {P : Type 0} → Exactly t P → ¬ P → t ≡ false

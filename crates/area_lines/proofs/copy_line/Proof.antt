@@ -1,11 +1,11 @@
--- `area_parts::copy_line` meets its contract: the layout that is found is copied from, and a refusal is passed on.
+-- `area_lines::copy_line` meets its contract: the layout that is found is copied from, and a refusal is passed on.
 -- Assumes nothing.
 use mathlib.Core.Path.{sym, ap, _∙_}
 use Rattle.area.specs.Opening.{areaSays}
 use Rattle.layout.proofs.OneKind.{area-known}
 use borrow.Author.Needs.{needs}
-use Rattle.area_parts.proofs.copy_line.Statement.{statement}
-use Rattle.area_parts.proofs.copy_line.Tie as tie
+use Rattle.area_lines.proofs.copy_line.Statement.{statement}
+use Rattle.area_lines.proofs.copy_line.Tie as tie
 
 area-of-requires : tie.Need-area-of-requires
 area-of-requires c κs = search needs

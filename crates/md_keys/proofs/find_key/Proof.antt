@@ -1,11 +1,11 @@
--- `md_parts::find_key` meets its contract: a fresh MD layout is one of an accepted file, and a refusal is passed on.
+-- `md_keys::find_key` meets its contract: a fresh MD layout is one of an accepted file, and a refusal is passed on.
 -- Assumes nothing.
 use mathlib.Core.Path.{sym, ap, _∙_}
 use Rattle.md.specs.Opening.{mdSays}
 use Rattle.layout.proofs.OneKind.{md-known}
 use borrow.Author.Needs.{needs}
-use Rattle.md_parts.proofs.find_key.Statement.{statement}
-use Rattle.md_parts.proofs.find_key.Tie as tie
+use Rattle.md_keys.proofs.find_key.Statement.{statement}
+use Rattle.md_keys.proofs.find_key.Tie as tie
 
 md-of-requires : tie.Need-md-of-requires
 md-of-requires c κs = search needs

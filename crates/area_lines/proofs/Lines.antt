@@ -38,7 +38,7 @@ use Rattle.places.proofs.Bounds.{area-bounded}
 use Rattle.places.proofs.Places.{sample-place}
 use Rattle.values.specs.Reading.{readSample}
 use Rattle.values.proofs.Reading.{sample-exactly}
-use Rattle.area_parts.specs.Lines.{slotIn, slotLine, channelLine, lineOf, copyLine}
+use Rattle.area_lines.specs.Lines.{slotIn, slotLine, channelLine, lineOf, copyLine}
 
 -- the samples of a slot are so many bytes apart
 pub sample-along : (l : AreaLayout) (i e s : ℕ) → sampleAddress l i 0 s + e * (l .bands * l .width) ≡ sampleAddress l i e s

@@ -1,12 +1,12 @@
--- `md_parts::find_in` meets its contract: no position before the one that the loop is at has the name.
+-- `md_keys::find_in` meets its contract: no position before the one that the loop is at has the name.
 -- Assumes nothing.
 use mathlib.Core.Path.{sym, _∙_}
 use Prim.Native.Nat.{_+_, _-_, _≤_}
 use native.Mathlib.Omega.{arith}
-use Rattle.md_parts.specs.Keys.{isNamed}
-use Rattle.md_parts.proofs.Names.{NoneBelow, none-more, name-found, name-none, name-other}
-use Rattle.md_parts.proofs.find_in.Statement.{statement}
-use Rattle.md_parts.proofs.find_in.Tie as tie
+use Rattle.md_keys.specs.Keys.{isNamed}
+use Rattle.md_keys.proofs.Names.{NoneBelow, none-more, name-found, name-none, name-other}
+use Rattle.md_keys.proofs.find_in.Statement.{statement}
+use Rattle.md_keys.proofs.find_in.Tie as tie
 
 abbrev Inv-loop : tie.InvT-loop
 Inv-loop file name keys position₀ position = (1 ≤ position) × ((position ≤ keys + 1) × NoneBelow (isNamed file name) position)

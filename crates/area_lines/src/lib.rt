@@ -1,0 +1,78 @@
+// The lines of an AREA file: the slot of a band, and one slot of one line copied into a lent output.
+use area::AreaLayout;
+use area::AreaOpening;
+use bands::Channel;
+use bands::slot_of;
+use layout::Layout;
+use layout::area_of;
+use number_copies::Run;
+use number_copies::copy_numbers;
+use places::PlaceAnswer;
+use places::What;
+use places::place_of;
+use refusal::NumberAnswer;
+use refusal::SizeAnswer;
+ghost use mathlib.Core.Path.{_≡_};
+ghost use Rattle.refusal.specs.Answers.{numberSays, sizeSays};
+ghost use Rattle.area.specs.Samples.{AreaOf};
+ghost use Rattle.parts.specs.Runs.{copied};
+ghost use Rattle.area_lines.specs.Lines.{slotIn, channelLine, copyLine};
+
+// The slot of a band, counted from 1, of an AREA file. Refused with 9 where the layout is stale, then with 7 where it is of another kind, then with 4 at 19 where
+// the band map has not as many set bits as there are bands, then with 7 where it has no such band.
+pub fn band_slot(file: &[u8], layout: Layout, band: u32) -> NumberAnswer
+    ensures { λ r. ⌜ numberSays r ≡ slotIn (now (file .entry)) layout band ⌝ }
+{
+    match area_of(file, layout) {
+        AreaOpening::Refused(refusal) => NumberAnswer::Refused(refusal),
+        AreaOpening::Opened(l) => slot_of(l, Channel::Band(band)),
+    }
+}
+
+// Copies one channel of one line of an accepted file.
+fn copy_channel(
+    file: &[u8],
+    l: AreaLayout,
+    line: u32,
+    channel: Channel,
+    out: &mut [u32],
+) -> SizeAnswer
+    requires { ⌜ AreaOf (now file) l ⌝ }
+    ensures { λ r. ⌜ (sizeSays r, now (out .exit)) ≡ copied (channelLine (now (file .entry)) l line channel) (now (out .entry)) ⌝ }
+{
+    let order = l.order;
+    let first = What::Sample {
+        line: line,
+        element: 0,
+        channel: channel,
+    };
+    match place_of(Layout::Area(l), first) {
+        PlaceAnswer::Refused(refusal) => SizeAnswer::Refused(refusal),
+        PlaceAnswer::At(place) => {
+            let run = Run {
+                at: place.address,
+                step: l.bands as usize * l.width as usize,
+                count: l.elements as usize,
+            };
+            copy_numbers(order, place.width, file, run, out)
+        }
+    }
+}
+
+// Copies one slot, or one band, of one line, counted from 0, of an AREA file into the first places of a lent output of unsigned numbers, and answers how many
+// it wrote. Refused with 9 where the layout is stale, then with 7 where it is of another kind, then with 4 at 19 where a band is named and the band map is
+// unusable, then with 7 where there is no such line, slot or band, then with 10 where the output is too short. A refused copy writes nothing.
+pub fn copy_line(
+    file: &[u8],
+    layout: Layout,
+    line: u32,
+    channel: Channel,
+    out: &mut [u32],
+) -> SizeAnswer
+    ensures { λ r. ⌜ (sizeSays r, now (out .exit)) ≡ copyLine (now (file .entry)) layout line channel (now (out .entry)) ⌝ }
+{
+    match area_of(file, layout) {
+        AreaOpening::Refused(refusal) => SizeAnswer::Refused(refusal),
+        AreaOpening::Opened(l) => copy_channel(file, l, line, channel, out),
+    }
+}

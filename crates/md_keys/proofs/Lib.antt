@@ -1,0 +1,2 @@
+mod Names
+pub mod Keys
