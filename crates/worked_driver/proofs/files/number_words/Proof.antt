@@ -1,0 +1,49 @@
+-- `worked_driver::files::number_words` meets its contract: it ends.
+-- Assumes nothing.
+use mathlib.Core.Path.{_≡_}
+use Prim.Native.Nat.{_-_}
+use lib.ListN.{length}
+use borrow.Author.Needs.{needs}
+use Rattle.worked_driver.proofs.files.number_words.Statement.{statement}
+use Rattle.worked_driver.proofs.files.number_words.Tie as tie
+
+abbrev Inv-loop : tie.InvT-loop
+Inv-loop subject file₀ k₀ file k = length file ≡ length file₀
+
+abbrev μ-loop : tie.MeasureT-loop
+μ-loop subject file₀ k₀ file k = 4121 - k
+
+loop-holds : tie.Need-loop-holds Inv-loop μ-loop
+loop-holds c = search needs
+
+set-word-requires : tie.Need-set-word-requires Inv-loop μ-loop
+set-word-requires c κs = search needs
+
+add-k : tie.Need-add-k Inv-loop μ-loop
+add-k c = search needs
+
+loop-less : tie.Need-loop-less Inv-loop μ-loop
+loop-less c = search needs
+
+loop-again : tie.Need-loop-again Inv-loop μ-loop
+loop-again c = search needs
+
+same-length : tie.Need-same-length Inv-loop μ-loop
+same-length c = search needs
+
+returns : tie.Need-returns Inv-loop μ-loop
+returns c = search needs
+
+pub number-words-spec : {M : Type 1} → statement M
+number-words-spec =
+    tie.close
+    (tie.spec
+    Inv-loop
+    μ-loop
+    loop-holds
+    set-word-requires
+    add-k
+    loop-less
+    loop-again
+    same-length
+    returns)
