@@ -1,4 +1,4 @@
 // The listing of an AREA file: the program of document 01. Its stdin is the worked file B.
 fn main() {
-    listing::list_standard_input();
+    list_input::list_standard_input();
 }

@@ -1,4 +1,4 @@
 // The listing of an empty file.
 fn main() {
-    listing::list_standard_input();
+    list_input::list_standard_input();
 }

@@ -1,4 +1,4 @@
 // The listing of B in little order.
 fn main() {
-    listing::list_standard_input();
+    list_input::list_standard_input();
 }

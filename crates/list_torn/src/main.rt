@@ -1,4 +1,4 @@
 // The listing of the worked file P cut to 263 bytes.
 fn main() {
-    listing::list_standard_input();
+    list_input::list_standard_input();
 }
