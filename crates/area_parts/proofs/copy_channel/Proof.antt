@@ -4,10 +4,11 @@ use mathlib.Core.Path.{_≡_, sym, ap, _∙_}
 use native.Mathlib.Nat.{mul-le-mul}
 use native.Mathlib.Omega.{arith}
 use denote.Ref.{now}
-use Rattle.refusal.specs.Answers.{mapped}
+use Rattle.refusal.specs.Answers.{mapped, placeSays}
 use Rattle.area.proofs.Samples.{width-to}
+use Rattle.area_places.specs.Places.{samplePlace}
 use Rattle.parts.specs.Runs.{copied}
-use Rattle.places.specs.Places.{placeSays, samplePlace, placeOf}
+use Rattle.places.specs.Places.{placeOf}
 use Rattle.area_parts.proofs.Lines.{runFrom, line-from, run-inside}
 use borrow.Author.Needs.{needs}
 use Rattle.area_parts.proofs.copy_channel.Statement.{statement}
