@@ -13,8 +13,9 @@ use borrow.Author.Tests.{ltb-true, lt-ltb}
 use Rattle.lists.specs.Lists.{listOf}
 use Rattle.lists.proofs.Built.{length-listOf, getD-listOf}
 use Rattle.endian.specs.Numbers.{numberAt}
-use Rattle.refusal.specs.Answers.{Answer, gives, refuses, answered, mapped, andThen}
+use Rattle.refusal.specs.Answers.{Answer, gives, refuses, answered, mapped, andThen, place}
 use Rattle.refusal.specs.Rules.{rule, judge, first, firstFault}
+use Rattle.refusal.specs.declared.Place.{Place}
 use Rattle.refusal.specs.declared.Verdict.{Verdict}
 use Rattle.refusal.specs.declared.Verdict.the-variants.{Pass, Fault}
 use Rattle.refusal.proofs.Answers.{then-gives, then-never, value-exactly, never-refused}
@@ -22,6 +23,9 @@ use Rattle.refusal.proofs.Tables.{also}
 use Rattle.area.specs.Samples.{sampleAddress, AreaFits, AreaOf}
 use Rattle.area.specs.declared.AreaLayout.{AreaLayout}
 use Rattle.area.proofs.Samples.{width-to, sample-inside}
+use Rattle.area_places.specs.Places.{sampleRules, samplePlace}
+use Rattle.area_places.proofs.Bounds.{area-bounded}
+use Rattle.area_places.proofs.Places.{sample-place}
 use Rattle.layout.specs.Found.{areaOf}
 use Rattle.layout.specs.Layouts.{Fresh}
 use Rattle.layout.specs.declared.Layout.{Layout}
@@ -32,10 +36,6 @@ use Rattle.bands.specs.declared.Channel.the-variants.{Band}
 use Rattle.bands.proofs.Slots.{slot-inside, slot-never}
 use Rattle.parts.specs.Runs.{numbersAt}
 use Rattle.parts.proofs.Copies.{copied-nine}
-use Rattle.places.specs.Places.{place, sampleRules, samplePlace}
-use Rattle.places.specs.declared.Place.{Place}
-use Rattle.places.proofs.Bounds.{area-bounded}
-use Rattle.places.proofs.Places.{sample-place}
 use Rattle.values.specs.Reading.{readSample}
 use Rattle.values.proofs.Reading.{sample-exactly}
 use Rattle.area_lines.specs.Lines.{slotIn, slotLine, channelLine, lineOf, copyLine}

@@ -1,16 +1,15 @@
 // The lines of an AREA file: the slot of a band, and one slot of one line copied into a lent output.
 use area::AreaLayout;
 use area::AreaOpening;
+use area_places::sample_place;
 use bands::Channel;
 use bands::slot_of;
 use layout::Layout;
 use layout::area_of;
 use number_copies::Run;
 use number_copies::copy_numbers;
-use places::PlaceAnswer;
-use places::What;
-use places::place_of;
 use refusal::NumberAnswer;
+use refusal::PlaceAnswer;
 use refusal::SizeAnswer;
 ghost use mathlib.Core.Path.{_≡_};
 ghost use Rattle.refusal.specs.Answers.{numberSays, sizeSays};
@@ -41,12 +40,7 @@ fn copy_channel(
     ensures { λ r. ⌜ (sizeSays r, now (out .exit)) ≡ copied (channelLine (now (file .entry)) l line channel) (now (out .entry)) ⌝ }
 {
     let order = l.order;
-    let first = What::Sample {
-        line: line,
-        element: 0,
-        channel: channel,
-    };
-    match place_of(Layout::Area(l), first) {
+    match sample_place(l, line, 0, channel) {
         PlaceAnswer::Refused(refusal) => SizeAnswer::Refused(refusal),
         PlaceAnswer::At(place) => {
             let run = Run {

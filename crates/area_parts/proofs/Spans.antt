@@ -21,14 +21,14 @@ use Rattle.area.specs.declared.Block.{Block}
 use Rattle.area.specs.declared.Region.{Region}
 use Rattle.area.proofs.Blocks.{block-inside}
 use Rattle.area.proofs.Regions.{region-inside}
+use Rattle.area_places.specs.Places.{lineStartOf}
+use Rattle.area_places.proofs.Places.{line-begins}
 use Rattle.layout.specs.Found.{areaOf}
 use Rattle.layout.specs.Layouts.{Fresh}
 use Rattle.layout.specs.declared.Layout.{Layout}
 use Rattle.layout.proofs.OneKind.{area-known, area-nine}
 use Rattle.parts.specs.Spans.{span, Inside}
 use Rattle.parts.specs.declared.Span.{Span}
-use Rattle.places.specs.Places.{lineStartOf}
-use Rattle.places.proofs.Places.{line-begins}
 use Rattle.area_parts.specs.Spans.{blockRules, blockOf, blockSpan, regionRules, regionOf, regionSpan}
 
 -- ---- where lines begin

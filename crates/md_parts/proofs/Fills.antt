@@ -25,11 +25,11 @@ use Rattle.md.specs.Accepts.{MdOf}
 use Rattle.md.specs.Fields.{fieldsOf, fieldWord, IsField}
 use Rattle.md.specs.declared.MdLayout.{MdLayout}
 use Rattle.md.proofs.Fields.{field-inside}
+use Rattle.md_places.specs.Places.{partWord, partStartOf}
+use Rattle.md_places.proofs.Bounds.{md-bounds, md-bounded}
+use Rattle.md_places.proofs.Places.{part-begins}
+use Rattle.md_places.proofs.Sizes.{part-most, field-in-part}
 use Rattle.parts.specs.Runs.{wordsAt}
-use Rattle.places.specs.Places.{partWord, partStartOf}
-use Rattle.places.proofs.Bounds.{md-bounds, md-bounded}
-use Rattle.places.proofs.Places.{part-begins}
-use Rattle.places.proofs.Sizes.{part-most, field-in-part}
 use Rattle.md_parts.specs.Records.{partFields, recordFields, IsRecord, recordRules}
 
 -- ---- how many fields

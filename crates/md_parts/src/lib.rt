@@ -3,7 +3,7 @@ use layout::Layout;
 use layout::md_of;
 use md::MdLayout;
 use md::MdOpening;
-use places::part_start;
+use md_places::part_start;
 use refusal::NO_SUCH;
 use refusal::Refusal;
 use refusal::SHORT_OUTPUT;

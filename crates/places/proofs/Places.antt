@@ -1,8 +1,7 @@
 -- Where the values of an accepted file lie: at the paper's addresses, inside the file, equally wide and at multiples of the width from one base, and at
--- one place no two of them. A layout that opening gives is within bounds, so the test of bounds never refuses it.
+-- one place no two of them.
 -- Assumes nothing.
-use mathlib.Core.Path.{_≡_, refl, sym, ap, subst, _∙_}
-use mathlib.Core.Logic.{_↔_}
+use mathlib.Core.Path.{_≡_, sym, ap, subst, _∙_}
 use mathlib.Core.List.{List}
 use Prim.Native.Nat.{ℕ, _+_, _*_, _≤_}
 use native.Mathlib.Nat.{mul-comm}
@@ -10,105 +9,37 @@ use native.Mathlib.Omega.{arith}
 use lib.ListN.{length}
 use Rattle.lists.specs.Lists.{Apart}
 use Rattle.lists.proofs.Rows.{multiples-apart}
-use Rattle.refusal.specs.Answers.{gives, refuses}
-use Rattle.refusal.proofs.Answers.{gives-refuses, gives-same, refuses-same, then-gives, value-exactly}
+use Rattle.refusal.specs.Answers.{gives, place, wordPlace}
+use Rattle.refusal.specs.declared.Place.{Place}
+use Rattle.refusal.proofs.Answers.{gives-refuses}
 use Rattle.area.specs.Opening.{openArea}
-use Rattle.area.specs.Samples.{lineStart, sampleAddress, IsSample, AreaFits, AreaOf}
+use Rattle.area.specs.Samples.{sampleAddress, IsSample, AreaOf}
 use Rattle.area.specs.declared.AreaLayout.{AreaLayout}
 use Rattle.area.proofs.Facts.{area-of}
 use Rattle.area.proofs.Samples.{width-from, width-to, sample-inside, sample-lattice, sample-only}
-use Rattle.grid.specs.Points.{pointWord, IsPoint, GridFits, GridOf}
+use Rattle.area_places.proofs.Places.{sample-place}
+use Rattle.grid.specs.Points.{pointWord, IsPoint, GridOf}
 use Rattle.grid.proofs.Facts.{grid-of}
 use Rattle.grid.proofs.Points.{point-inside, point-only}
 use Rattle.grid_rules.specs.Opening.{openGrid}
 use Rattle.grid_rules.specs.declared.GridLayout.{GridLayout}
-use Rattle.md.specs.Accepts.{MdFits, MdOf}
+use Rattle.grid_places.proofs.Places.{point-place}
+use Rattle.md.specs.Accepts.{MdOf}
 use Rattle.md.specs.Fields.{fieldWord, IsField}
 use Rattle.md.specs.Opening.{openMd}
 use Rattle.md.specs.declared.MdLayout.{MdLayout}
 use Rattle.md.proofs.Facts.{md-of}
 use Rattle.md.proofs.Fields.{field-inside, field-only}
+use Rattle.md_places.proofs.Places.{field-place}
 use Rattle.layout.specs.Layouts.{Fresh}
 use Rattle.layout.specs.declared.Layout.{Layout}
 use Rattle.layout.specs.declared.Layout.the-variants.{Area, Grid, Md}
 use Rattle.layout.proofs.OneKind.{fresh-area, fresh-grid, fresh-md}
 use Rattle.bands.specs.Bands.{slotOf}
 use Rattle.bands.specs.declared.Channel.{Channel}
-use Rattle.bands.proofs.Slots.{slot-inside}
-use Rattle.places.specs.Places.{placeSays, place, wordPlace, lineRules, lineStartOf, sampleRules, samplePlace, pointRules, pointPlace, partRules, partWord, partStartOf, fieldRules, fieldPlace, placeOf}
-use Rattle.places.specs.declared.Place.{Place}
-use Rattle.places.specs.declared.PlaceAnswer.{PlaceAnswer}
-use Rattle.places.specs.declared.PlaceAnswer.the-variants.{At, Refused}
+use Rattle.places.specs.Places.{placeOf}
 use Rattle.places.specs.declared.What.{What}
 use Rattle.places.specs.declared.What.the-variants.{Sample, Point, Field}
-use Rattle.places.proofs.Bounds.{area-bounds, area-bounded, grid-bounds, grid-bounded, md-bounds, md-bounded}
-use Rattle.places.proofs.Tables.{lines-hold, samples-hold, points-hold, parts-hold, fields-hold}
-
--- what an answer says settles the answer
-pub place-settled : (x y : PlaceAnswer) → placeSays x ≡ placeSays y → x ≡ y
-place-settled (At p) (At q) e = ap At (gives-same e)
-place-settled (At p) (Refused s) e = gives-refuses e
-place-settled (Refused r) (At q) e = gives-refuses (sym e)
-place-settled (Refused r) (Refused s) e = ap Refused (refuses-same e)
-
--- ---- the paper's addresses
-
-module _ (l : AreaLayout) (fits : AreaFits l) where
-  -- a line of an accepted file begins where it does, and DATA ends where line W9 would begin
-  pub line-begins : (i : ℕ) → i ≤ l .lines → lineStartOf l i ≡ gives (lineStart l i)
-  unfolding lineStartOf
-  line-begins i h =
-      value-exactly (lineRules l i) (lineStart l i) (lineStart l i) .1
-      (lines-hold l i .1 (area-bounds l .sound (area-bounded l fits), h), refl)
-
-  -- a sample has a place exactly where its channel means a slot and there is such a sample, and then at W34 + l·(line length) + W15 + (e·W14 + s)·W11
-  pub sample-place : (i e : ℕ) (c : Channel) (p : Place)
-      → (samplePlace l i e c ≡ gives p) ↔ ((s : ℕ) × (slotOf l c ≡ gives s) × (IsSample l i e s × (p ≡ place (sampleAddress l i e s) (l .width))))
-  unfolding samplePlace
-  sample-place i e c p = (
-    λ q.
-        let (s, slot, given) = then-gives _ (slotOf l c) p .0 q in
-        let (hold, same) = value-exactly (sampleRules l i e) (place (sampleAddress l i e s) (l .width)) p .0 given in
-        let (bounds, (line, element)) = samples-hold l i e .0 hold in
-        (s, slot, (record { line = line; element = element; slot = slot-inside l c s slot }, same)),
-    λ x.
-        let (s, slot, (is, same)) = x in
-        then-gives _ (slotOf l c) p .1 (
-          s,
-          slot,
-          value-exactly (sampleRules l i e) (place (sampleAddress l i e s) (l .width)) p .1
-              (samples-hold l i e .1 (area-bounds l .sound (area-bounded l fits), (is .line, is .element)), same),
-        ),
-  )
-
--- a point has a place exactly where there is such a point, and then at word offset + 64 + (c-1)·rows + (r-1)
-pub point-place : (l : GridLayout) → GridFits l → (r c : ℕ) (p : Place)
-    → (pointPlace l r c ≡ gives p) ↔ (IsPoint l r c × (p ≡ wordPlace (pointWord l r c)))
-unfolding pointPlace
-point-place l fits r c p =
-    let x = value-exactly (pointRules l r c) (wordPlace (pointWord l r c)) p in
-    let y = points-hold l r c in (
-      λ e. (y .0 (x .0 e .0) .1, x .0 e .1),
-      λ h. x .1 (y .1 (grid-bounds l .sound (grid-bounded l fits), h .0), h .1),
-    )
-
-module _ (l : MdLayout) (fits : MdFits l) where
-  -- a part of an accepted file begins where its first field would be
-  pub part-begins : (r c : ℕ) → r ≤ l .rows → c ≤ l .columns → partStartOf l r c ≡ gives (partWord l r c)
-  unfolding partStartOf
-  part-begins r c h k =
-      value-exactly (partRules l r c) (partWord l r c) (partWord l r c) .1
-      (parts-hold l r c .1 (md-bounds l .sound (md-bounded l fits), (h, k)), refl)
-
-  -- a field has a place exactly where there is such a field, and then at its word
-  pub field-place : (r c f : ℕ) (p : Place) → (fieldPlace l r c f ≡ gives p) ↔ (IsField l r c f × (p ≡ wordPlace (fieldWord l r c f)))
-  unfolding fieldPlace
-  field-place r c f p =
-      let x = value-exactly (fieldRules l r c f) (wordPlace (fieldWord l r c f)) p in
-      let y = fields-hold l r c f in (
-        λ e. (y .0 (x .0 e .0) .1, x .0 e .1),
-        λ h. x .1 (y .1 (md-bounds l .sound (md-bounded l fits), h .0), h .1),
-      )
 
 -- ---- a value that has a place by a fresh layout
 

@@ -6,9 +6,11 @@ use mathlib.Core.List.{List, _∷_}
 use Prim.Native.Nat.{ℕ}
 use native.Mathlib.Omega.{arith}
 use Rattle.refusal.specs.Rules.{Rule, firstFault, Every, Hold, Give, FirstFailing}
-use Rattle.refusal.specs.Answers.{Answer, gives, refuses, answered, mapped, andThen, numberSays, wordSays, sizeSays}
+use Rattle.refusal.specs.Answers.{Answer, gives, refuses, answered, mapped, andThen, numberSays, wordSays, sizeSays, placeSays}
 use Rattle.refusal.specs.declared.NumberAnswer.{NumberAnswer}
 use Rattle.refusal.specs.declared.NumberAnswer.the-variants as NumberAnswer
+use Rattle.refusal.specs.declared.PlaceAnswer.{PlaceAnswer}
+use Rattle.refusal.specs.declared.PlaceAnswer.the-variants as PlaceAnswer
 use Rattle.refusal.specs.declared.Refusal.{Refusal}
 use Rattle.refusal.specs.declared.SizeAnswer.{SizeAnswer}
 use Rattle.refusal.specs.declared.SizeAnswer.the-variants as SizeAnswer
@@ -61,6 +63,13 @@ size-settled (SizeAnswer.Value n) (SizeAnswer.Value m) e = ap SizeAnswer.Value (
 size-settled (SizeAnswer.Value n) (SizeAnswer.Refused s) e = gives-refuses e
 size-settled (SizeAnswer.Refused r) (SizeAnswer.Value m) e = gives-refuses (sym e)
 size-settled (SizeAnswer.Refused r) (SizeAnswer.Refused s) e = ap SizeAnswer.Refused (refuses-same e)
+
+-- one whose value is a place
+pub place-settled : (x y : PlaceAnswer) → placeSays x ≡ placeSays y → x ≡ y
+place-settled (PlaceAnswer.At p) (PlaceAnswer.At q) e = ap PlaceAnswer.At (gives-same e)
+place-settled (PlaceAnswer.At p) (PlaceAnswer.Refused s) e = gives-refuses e
+place-settled (PlaceAnswer.Refused r) (PlaceAnswer.At q) e = gives-refuses (sym e)
+place-settled (PlaceAnswer.Refused r) (PlaceAnswer.Refused s) e = ap PlaceAnswer.Refused (refuses-same e)
 
 -- an answer with other values made of its values, no two of which become one, gives what the answer gives
 pub mapped-gives : {Value Other : Type 0} (h : Value → Other) → ((v w : Value) → h v ≡ h w → v ≡ w)
@@ -133,6 +142,10 @@ module _ {Value : Type 0} (rs : List Rule) (v : Value) where
       let x : FirstFailing rs f = refusal-exactly f .0 e in
       every-right (λ r. ¬ (r .number ≡ n)) (x .before) (x .failing ∷ x .after) (subst (Every (λ r. ¬ (r .number ≡ n))) (x .split) other) .0
       (sym (ap (λ (r : Refusal). r .number) (x .gives)))
+
+-- 7, there is no such value, is not 9, which is left to layouts that are stale
+pub seven-not-nine : ¬ (_≡_ {A = ℕ} 7 9)
+seven-not-nine e = omega arith
 
 -- ---- answers that say exactly whether a value is the one for what was asked
 

@@ -3,10 +3,13 @@
 -- In code an answer is an enum. For each such enum a definition gives what each of its cases says, in these terms, and the
 -- contract is that what the call's answer says equals what the call's definition gives.
 -- Assumes nothing.
-use Prim.Native.Nat.{ℕ}
+use Prim.Native.Nat.{ℕ, _*_}
 use lib.IntN.{ℤ}
 use Rattle.refusal.specs.declared.NumberAnswer.{NumberAnswer}
 use Rattle.refusal.specs.declared.NumberAnswer.the-variants as NumberAnswer
+use Rattle.refusal.specs.declared.Place.{Place}
+use Rattle.refusal.specs.declared.PlaceAnswer.{PlaceAnswer}
+use Rattle.refusal.specs.declared.PlaceAnswer.the-variants as PlaceAnswer
 use Rattle.refusal.specs.declared.SizeAnswer.{SizeAnswer}
 use Rattle.refusal.specs.declared.SizeAnswer.the-variants as SizeAnswer
 use Rattle.refusal.specs.declared.Verdict.{Verdict}
@@ -48,3 +51,16 @@ wordSays (WordAnswer.Refused r) = refuses (r .number) (r .place)
 abbrev pub sizeSays : SizeAnswer → Answer ℕ
 sizeSays (SizeAnswer.Value n) = gives n
 sizeSays (SizeAnswer.Refused r) = refuses (r .number) (r .place)
+
+-- whose value is a place
+abbrev pub placeSays : PlaceAnswer → Answer Place
+placeSays (PlaceAnswer.At p) = gives p
+placeSays (PlaceAnswer.Refused r) = refuses (r .number) (r .place)
+
+-- the place of so many bytes at an address
+abbrev pub place : ℕ → ℕ → Place
+place address width = record { address = address; width = width }
+
+-- the place of a word
+abbrev pub wordPlace : ℕ → Place
+wordPlace k = place (4 * k) 4

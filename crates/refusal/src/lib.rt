@@ -53,6 +53,18 @@ pub enum SizeAnswer {
     Refused(Refusal),
 }
 
+// Where a value lies: the byte at which it starts, and how many bytes it has. "Place" is document 01's term.
+pub struct Place {
+    pub address: usize,
+    pub width: usize,
+}
+
+// What a call answers that finds a place: the place, or a refusal.
+pub enum PlaceAnswer {
+    At(Place),
+    Refused(Refusal),
+}
+
 // What the rules that were applied so far say: they all hold, or the first that does not gives this refusal.
 pub enum Verdict {
     Pass,

@@ -9,7 +9,8 @@ use lib.IntN.{ℤ}
 use lib.ListN.{length}
 use Rattle.endian.specs.Numbers.{numberAt}
 use Rattle.endian.specs.Words.{signedAt}
-use Rattle.refusal.specs.Answers.{gives, refuses, mapped}
+use Rattle.refusal.specs.Answers.{gives, refuses, mapped, place, wordPlace}
+use Rattle.refusal.specs.declared.Place.{Place}
 use Rattle.refusal.proofs.Answers.{gives-refuses, mapped-made, mapped-refuses}
 use Rattle.area.specs.Opening.{openArea}
 use Rattle.area.specs.Samples.{sampleAddress, IsSample}
@@ -27,8 +28,7 @@ use Rattle.layout.proofs.Freshness.{found-fresh, found-only, stale-exactly}
 use Rattle.layout.proofs.OneKind.{fresh-area, fresh-grid, fresh-md}
 use Rattle.bands.specs.Bands.{slotOf}
 use Rattle.bands.specs.declared.Channel.{Channel}
-use Rattle.places.specs.Places.{place, wordPlace, placeOf}
-use Rattle.places.specs.declared.Place.{Place}
+use Rattle.places.specs.Places.{placeOf}
 use Rattle.places.specs.declared.What.{What}
 use Rattle.places.specs.declared.What.the-variants.{Sample, Point, Field}
 use Rattle.places.proofs.Places.{Located, sample-at, point-at, field-at, located, has-place, place-inside, place-width}

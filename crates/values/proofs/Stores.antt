@@ -21,6 +21,7 @@ use Rattle.endian.specs.declared.Order.{Order}
 use Rattle.endian.proofs.Numbers.{length-encode}
 use Rattle.endian.proofs.Places.{number-held, number-frame, word-number, words-apart}
 use Rattle.refusal.specs.Answers.{Answer, gives, refuses, mapped}
+use Rattle.refusal.specs.declared.Place.{Place}
 use Rattle.plan.specs.Plans.{write, Holds}
 use Rattle.plan.specs.Formats.{Writes, FormatLaws}
 use Rattle.plan.proofs.Formats.{pick-write, demand3}
@@ -40,7 +41,6 @@ use Rattle.layout.specs.declared.Layout.{Layout}
 use Rattle.layout.specs.declared.Layout.the-variants.{Area, Grid, Md}
 use Rattle.layout.proofs.Freshness.{that-exactly}
 use Rattle.places.specs.Places.{placeOf}
-use Rattle.places.specs.declared.Place.{Place}
 use Rattle.places.specs.declared.What.{What}
 use Rattle.places.proofs.Places.{Located, sample-at, point-at, field-at, located, place-inside, base, wide, place-lattice}
 use Rattle.values.specs.Reading.{placeIn, readSample, readWord}

@@ -7,12 +7,12 @@ use lib.IntN.{ℤ}
 use Rattle.endian.specs.Numbers.{numberAt}
 use Rattle.endian.specs.Words.{signedAt}
 use Rattle.refusal.specs.Answers.{Answer, mapped}
+use Rattle.refusal.specs.declared.Place.{Place}
 use Rattle.layout.specs.Layouts.{orderOf}
 use Rattle.layout.specs.Found.{found}
 use Rattle.layout.specs.declared.Layout.{Layout}
 use Rattle.bands.specs.declared.Channel.{Channel}
 use Rattle.places.specs.Places.{placeOf}
-use Rattle.places.specs.declared.Place.{Place}
 use Rattle.places.specs.declared.What.{What}
 use Rattle.places.specs.declared.What.the-variants.{Sample, Point, Field}
 

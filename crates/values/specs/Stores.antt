@@ -13,6 +13,7 @@ use Rattle.lists.specs.Choices.{pick}
 use Rattle.endian.specs.Numbers.{encode}
 use Rattle.endian.specs.declared.Order.{Order}
 use Rattle.refusal.specs.Answers.{Answer, gives, refuses, mapped}
+use Rattle.refusal.specs.declared.Place.{Place}
 use Rattle.plan.specs.Plans.{Plan, write, refuse}
 use Rattle.plan.specs.Formats.{Format, plan, system}
 use Rattle.plan.specs.Claims.{Demand3}
@@ -20,7 +21,6 @@ use Rattle.layout.specs.Layouts.{Kind, openAs, kindOf, orderOf, numberOf, gives
 use Rattle.layout.specs.declared.Layout.{Layout}
 use Rattle.bands.specs.declared.Channel.{Channel}
 use Rattle.places.specs.Places.{placeOf}
-use Rattle.places.specs.declared.Place.{Place}
 use Rattle.places.specs.declared.What.{What}
 use Rattle.places.specs.declared.What.the-variants.{Sample, Point, Field}
 use Rattle.values.specs.Reading.{readSample, readWord}

@@ -5,17 +5,16 @@ use endian::read_number;
 use endian::read_signed;
 use layout::Layout;
 use layout::is_fresh;
-use places::PlaceAnswer;
 use places::What;
 use places::place_of;
 use refusal::NumberAnswer;
+use refusal::PlaceAnswer;
 use refusal::Refusal;
 use refusal::STALE;
 use refusal::WordAnswer;
 ghost use mathlib.Core.Path.{_≡_};
-ghost use Rattle.refusal.specs.Answers.{numberSays, wordSays};
+ghost use Rattle.refusal.specs.Answers.{numberSays, wordSays, placeSays};
 ghost use Rattle.layout.specs.Layouts.{orderOf};
-ghost use Rattle.places.specs.Places.{placeSays};
 ghost use Rattle.values.specs.Reading.{placeIn, readSample, IsWord, readWord, readPoint, readField};
 
 // The byte order of a layout.

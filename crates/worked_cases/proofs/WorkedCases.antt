@@ -25,8 +25,13 @@ use Rattle.md.specs.Worked.{fileM, M, layoutM}
 use Rattle.md.proofs.Worked.{worked-md}
 use Rattle.layout.proofs.Freshness.{found-fresh}
 use Rattle.layout.proofs.OneKind.{fresh-area, fresh-grid, fresh-md}
-use Rattle.places.specs.Bounds.{areaBounded, gridBounded, mdBounded}
-use Rattle.places.specs.Places.{sampleRules, samplePlace, pointRules, pointPlace, partRules, fieldRules, fieldPlace, placeOf}
+use Rattle.area_places.specs.Bounds.{areaBounded}
+use Rattle.area_places.specs.Places.{sampleRules, samplePlace}
+use Rattle.grid_places.specs.Bounds.{gridBounded}
+use Rattle.grid_places.specs.Places.{pointRules, pointPlace}
+use Rattle.md_places.specs.Bounds.{mdBounded}
+use Rattle.md_places.specs.Places.{partRules, fieldRules, fieldPlace}
+use Rattle.places.specs.Places.{placeOf}
 use Rattle.area_parts.specs.Spans.{blockRules, blockOf}
 use Rattle.worked_cases.specs.WorkedCases.{WorkedCases}
 

@@ -4,7 +4,7 @@
 use mathlib.Core.Path.{_≡_}
 use lib.ListN.{take}
 use Rattle.endian.specs.declared.Order.the-variants.{Big}
-use Rattle.refusal.specs.Answers.{gives, refuses}
+use Rattle.refusal.specs.Answers.{gives, refuses, place, wordPlace}
 use Rattle.area.specs.Opening.{openArea}
 use Rattle.area.specs.Worked.{P, fileB, B, layoutP, layoutB}
 use Rattle.area.specs.declared.Block.the-variants.{Nav}
@@ -14,7 +14,6 @@ use Rattle.md.specs.Opening.{openMd}
 use Rattle.md.specs.Worked.{fileM, M, layoutM}
 use Rattle.layout.specs.declared.Layout.the-variants.{Area, Grid, Md}
 use Rattle.bands.specs.declared.Channel.the-variants.{Slot}
-use Rattle.places.specs.Places.{place, wordPlace}
 use Rattle.places.specs.declared.What.the-variants.{Sample, Point, Field}
 use Rattle.values.specs.Reading.{placeIn}
 use Rattle.parts.specs.Spans.{span}

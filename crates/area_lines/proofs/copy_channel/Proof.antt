@@ -1,25 +1,19 @@
 -- `area_lines::copy_channel` meets its contract: the line is a run from the place of its element 0 on.
 -- Assumes nothing.
-use mathlib.Core.Path.{_≡_, sym, ap, _∙_}
+use mathlib.Core.Path.{sym, ap, _∙_}
 use native.Mathlib.Nat.{mul-le-mul}
 use native.Mathlib.Omega.{arith}
 use denote.Ref.{now}
-use Rattle.refusal.specs.Answers.{mapped}
+use Rattle.refusal.specs.Answers.{mapped, placeSays}
 use Rattle.area.proofs.Samples.{width-to}
 use Rattle.parts.specs.Runs.{copied}
-use Rattle.places.specs.Places.{placeSays, samplePlace, placeOf}
 use Rattle.area_lines.proofs.Lines.{runFrom, line-from, run-inside}
 use borrow.Author.Needs.{needs}
 use Rattle.area_lines.proofs.copy_channel.Statement.{statement}
 use Rattle.area_lines.proofs.copy_channel.Tie as tie
 
--- the answer of `place_of` is the place of element 0
-first : (c : tie.After-place-of) → let a = c .before .before .before .args in placeSays (c .place-of .result) ≡ samplePlace (a .l) (a .line) 0 (a .channel)
-unfolding placeOf
-first c = c .place-of .ensures
-
-place-of-requires : tie.Need-place-of-requires
-place-of-requires c κs = search needs
+sample-place-requires : tie.Need-sample-place-requires
+sample-place-requires c κs = search needs
 
 enum-known-refusal : tie.Need-enum-known-refusal
 enum-known-refusal c = search needs
@@ -27,25 +21,26 @@ enum-known-refusal c = search needs
 enum-known-place : tie.Need-enum-known-place
 enum-known-place c = search needs
 
-cast-t14 : tie.Need-cast-t14
-cast-t14 c = search needs
+cast-t12 : tie.Need-cast-t12
+cast-t12 c = search needs
 
-cast-t15 : tie.Need-cast-t15
-cast-t15 c = search needs
+cast-t13 : tie.Need-cast-t13
+cast-t13 c = search needs
 
-mul-t16 : tie.Need-mul-t16
-mul-t16 c =
+mul-t14 : tie.Need-mul-t14
+mul-t14 c =
     let s = c .before .before .before .before .before .before .before .before in
     omega (arith, mul-le-mul (s .pre .fits .bands-to) (width-to (s .args .l) (s .pre .fits)))
 
-cast-t17 : tie.Need-cast-t17
-cast-t17 c = search needs
+cast-t15 : tie.Need-cast-t15
+cast-t15 c = search needs
 
 copy-numbers-requires : tie.Need-copy-numbers-requires
 copy-numbers-requires c κs =
     let s = c .before .before .before .before .before .before .before .before .before .before in
     run-inside (now (s .args .file)) (s .args .l) (s .pre) (s .args .line) (s .args .channel) _
-    (sym (first (c .before .before .before .before .before .before .before)) ∙ ap placeSays (c .before .before .before .before .before .place .given .1))
+    (sym (c .before .before .before .before .before .before .before .sample-place .ensures)
+    ∙ ap placeSays (c .before .before .before .before .before .place .given .1))
 
 returns : tie.Need-returns
 returns c =
@@ -53,7 +48,7 @@ returns c =
     let a = s .args in
     ap (λ x. copied x (now (a .out)))
     (ap (λ x. mapped (runFrom (now (a .file)) (a .l)) (placeSays x)) (sym (c .before .refusal .given .1))
-    ∙ ap (mapped (runFrom (now (a .file)) (a .l))) (first (c .before .before .before))
+    ∙ ap (mapped (runFrom (now (a .file)) (a .l))) (c .before .before .before .sample-place .ensures)
     ∙ line-from (now (a .file)) (a .l) (s .pre .fits) (a .line) (a .channel))
 
 same-length : tie.Need-same-length
@@ -66,20 +61,20 @@ returns-2 c =
     c .before .before .copy-numbers .ensures
     ∙ ap (λ x. copied x (now (a .out)))
     (ap (λ x. mapped (runFrom (now (a .file)) (a .l)) (placeSays x)) (sym (c .before .before .before .before .before .before .before .before .place .given .1))
-    ∙ ap (mapped (runFrom (now (a .file)) (a .l))) (first (c .before .before .before .before .before .before .before .before .before .before))
+    ∙ ap (mapped (runFrom (now (a .file)) (a .l))) (c .before .before .before .before .before .before .before .before .before .before .sample-place .ensures)
     ∙ line-from (now (a .file)) (a .l) (s .pre .fits) (a .line) (a .channel))
 
 pub copy-channel-spec : {M : Type 1} → statement M
 copy-channel-spec =
     tie.close
     (tie.spec
-    place-of-requires
+    sample-place-requires
     enum-known-refusal
     enum-known-place
-    cast-t14
+    cast-t12
+    cast-t13
+    mul-t14
     cast-t15
-    mul-t16
-    cast-t17
     copy-numbers-requires
     returns
     same-length

@@ -11,8 +11,8 @@ use Rattle.area.specs.Samples.{lineStart}
 use Rattle.area.specs.Blocks.{regionOffset}
 use Rattle.area.proofs.Regions.{region-prefix}
 use Rattle.area.proofs.Samples.{line-inside}
+use Rattle.area_places.proofs.Places.{line-begins}
 use Rattle.parts.specs.Spans.{span}
-use Rattle.places.proofs.Places.{line-begins}
 use Rattle.area_parts.specs.Spans.{regionRules, regionOf}
 use Rattle.area_parts.proofs.Spans.{region-hold}
 use borrow.Author.Needs.{needs}

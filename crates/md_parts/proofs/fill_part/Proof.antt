@@ -2,7 +2,7 @@
 -- Assumes nothing.
 use mathlib.Core.Path.{_≡_}
 use native.Mathlib.Omega.{arith}
-use Rattle.places.specs.Places.{partWord}
+use Rattle.md_places.specs.Places.{partWord}
 use Rattle.md_parts.proofs.Fills.{part-words, part-inside, part-small, part-started, part-granted}
 use borrow.Author.Needs.{needs}
 use Rattle.md_parts.proofs.fill_part.Statement.{statement}

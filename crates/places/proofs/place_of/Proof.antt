@@ -1,7 +1,8 @@
 -- `places::place_of` meets its contract: each arm is a case of the definition.
 -- Assumes nothing.
 use mathlib.Core.Path.{ap}
-use Rattle.places.specs.Places.{placeSays, placeOf}
+use Rattle.refusal.specs.Answers.{placeSays}
+use Rattle.places.specs.Places.{placeOf}
 use borrow.Author.Needs.{needs}
 use Rattle.places.proofs.place_of.Statement.{statement}
 use Rattle.places.proofs.place_of.Tie as tie

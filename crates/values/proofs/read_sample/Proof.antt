@@ -3,8 +3,7 @@
 use mathlib.Core.Path.{sym, ap, _∙_}
 use denote.Ref.{now}
 use Rattle.endian.specs.Numbers.{numberAt}
-use Rattle.refusal.specs.Answers.{gives}
-use Rattle.places.specs.Places.{placeSays}
+use Rattle.refusal.specs.Answers.{gives, placeSays}
 use Rattle.values.specs.Reading.{readSample}
 use Rattle.values.proofs.Reading.{read-inside}
 use borrow.Author.Needs.{needs}

@@ -5,8 +5,7 @@ use mir.Syntax.{w32}
 use mir.Val.{toZ, ofZ}
 use denote.Ref.{now}
 use Rattle.endian.specs.Words.{signedAt}
-use Rattle.refusal.specs.Answers.{gives}
-use Rattle.places.specs.Places.{placeSays}
+use Rattle.refusal.specs.Answers.{gives, placeSays}
 use Rattle.values.specs.Reading.{readWord}
 use Rattle.values.proofs.Reading.{word-inside}
 use borrow.Author.Needs.{needs}

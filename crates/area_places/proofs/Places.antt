@@ -1,0 +1,52 @@
+-- Where the lines and samples of an accepted AREA file lie: at the paper's addresses. A layout that opening gives is within bounds, so the test of bounds never
+-- refuses it. Refusal 9 is left to layouts that are stale.
+-- Assumes nothing.
+use mathlib.Core.Path.{_≡_, refl}
+use mathlib.Core.Logic.{_↔_}
+use Prim.Native.Nat.{ℕ, _≤_}
+use Rattle.refusal.specs.Answers.{gives, refuses, place}
+use Rattle.refusal.specs.declared.Place.{Place}
+use Rattle.refusal.proofs.Answers.{then-gives, then-never, value-exactly, never-refused, seven-not-nine}
+use Rattle.area.specs.Samples.{lineStart, sampleAddress, IsSample, AreaFits}
+use Rattle.area.specs.declared.AreaLayout.{AreaLayout}
+use Rattle.bands.specs.Bands.{slotOf}
+use Rattle.bands.specs.declared.Channel.{Channel}
+use Rattle.bands.proofs.Slots.{slot-inside, slot-never}
+use Rattle.area_places.specs.Places.{lineRules, lineStartOf, sampleRules, samplePlace}
+use Rattle.area_places.proofs.Bounds.{area-bounds, area-bounded}
+use Rattle.area_places.proofs.Tables.{lines-hold, samples-hold}
+
+module _ (l : AreaLayout) (fits : AreaFits l) where
+  -- a line of an accepted file begins where it does, and DATA ends where line W9 would begin
+  pub line-begins : (i : ℕ) → i ≤ l .lines → lineStartOf l i ≡ gives (lineStart l i)
+  unfolding lineStartOf
+  line-begins i h =
+      value-exactly (lineRules l i) (lineStart l i) (lineStart l i) .1
+      (lines-hold l i .1 (area-bounds l .sound (area-bounded l fits), h), refl)
+
+  -- a sample has a place exactly where its channel means a slot and there is such a sample, and then at W34 + l·(line length) + W15 + (e·W14 + s)·W11
+  pub sample-place : (i e : ℕ) (c : Channel) (p : Place)
+      → (samplePlace l i e c ≡ gives p) ↔ ((s : ℕ) × (slotOf l c ≡ gives s) × (IsSample l i e s × (p ≡ place (sampleAddress l i e s) (l .width))))
+  unfolding samplePlace
+  sample-place i e c p = (
+    λ q.
+        let (s, slot, given) = then-gives _ (slotOf l c) p .0 q in
+        let (hold, same) = value-exactly (sampleRules l i e) (place (sampleAddress l i e s) (l .width)) p .0 given in
+        let (bounds, (line, element)) = samples-hold l i e .0 hold in
+        (s, slot, (record { line = line; element = element; slot = slot-inside l c s slot }, same)),
+    λ x.
+        let (s, slot, (is, same)) = x in
+        then-gives _ (slotOf l c) p .1 (
+          s,
+          slot,
+          value-exactly (sampleRules l i e) (place (sampleAddress l i e s) (l .width)) p .1
+              (samples-hold l i e .1 (area-bounds l .sound (area-bounded l fits), (is .line, is .element)), same),
+        ),
+  )
+
+-- the place of a sample, by a layout alone, is never refused with 9
+pub sample-never : (l : AreaLayout) (i e : ℕ) (c : Channel) → ¬ (samplePlace l i e c ≡ refuses 9 0)
+unfolding samplePlace sampleRules
+sample-never l i e c =
+    then-never _ (slotOf l c) 9 0 (slot-never l c)
+    (λ s. never-refused (sampleRules l i e) _ 9 0 (seven-not-nine, (seven-not-nine, (seven-not-nine, tt))))

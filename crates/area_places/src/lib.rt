@@ -1,0 +1,91 @@
+// Where the lines and samples of an AREA file lie, by a layout alone. A layout may be one that a caller has made up: where a field of it is above the bounds
+// that opening sets, there is no such value, and nothing is computed from it.
+use area::AreaLayout;
+use bands::Channel;
+use bands::slot_of;
+use refusal::NO_SUCH;
+use refusal::NumberAnswer;
+use refusal::Place;
+use refusal::PlaceAnswer;
+use refusal::SizeAnswer;
+use refusal::Verdict;
+use refusal::and;
+use refusal::check;
+ghost use mathlib.Core.Path.{_≡_};
+ghost use Prim.Native.Nat.{_≤_};
+ghost use Rattle.refusal.specs.Answers.{sizeSays, placeSays};
+ghost use Rattle.refusal.specs.Rules.{firstFault};
+ghost use Rattle.area.specs.Samples.{lineIn, lineStart, sampleAddress};
+ghost use Rattle.area_places.specs.Bounds.{areaBounded, AreaBounds};
+ghost use Rattle.area_places.specs.Places.{lineStartOf, sampleRules, samplePlace};
+
+// Whether the fields that AREA addresses are computed from are within the bounds that opening sets.
+fn area_bounded(l: AreaLayout) -> bool
+    ensures { λ r. ⌜ r ≡ areaBounded l ⌝ }
+{
+    let samples = and(l.width <= 4, l.bands <= 64);
+    and(l.lines <= 65535, and(l.elements <= 65535, samples))
+}
+
+// The bytes of a line.
+fn line_length(l: AreaLayout) -> usize
+    requires { ⌜ AreaBounds l ⌝ }
+    ensures { λ r. ⌜ r ≡ lineIn l ⌝ }
+{
+    l.prefix as usize + l.bands as usize * l.elements as usize * l.width as usize
+}
+
+// Where line i begins.
+fn line_at(l: AreaLayout, line: u32) -> usize
+    requires { ⌜ AreaBounds l × (line ≤ l .lines) ⌝ }
+    ensures { λ r. ⌜ r ≡ lineStart l line ⌝ }
+{
+    l.start as usize + line as usize * line_length(l)
+}
+
+// The byte at which a line of an AREA file begins, with its prefix, the line counted from 0. Line W9 would begin where DATA ends, and so gives that byte.
+// Refused with 7 for any line behind it, or where the layout is above the bounds that opening sets.
+pub fn line_start(l: AreaLayout, line: u32) -> SizeAnswer
+    ensures { λ r. ⌜ sizeSays r ≡ lineStartOf l line ⌝ }
+{
+    let bounded = check(Verdict::Pass, area_bounded(l), NO_SUCH, 0);
+    match check(bounded, line <= l.lines, NO_SUCH, 0) {
+        Verdict::Fault(refusal) => SizeAnswer::Refused(refusal),
+        Verdict::Pass => SizeAnswer::Value(line_at(l, line)),
+    }
+}
+
+// Where the sample of a line, an element and a slot lies.
+fn sample_address(l: AreaLayout, line: u32, element: u32, slot: u32) -> usize
+    requires { ⌜ AreaBounds l × ((line ≤ l .lines) × ((element ≤ l .elements) × (slot ≤ l .bands))) ⌝ }
+    ensures { λ r. ⌜ r ≡ sampleAddress l line element slot ⌝ }
+{
+    let before = element as usize * l.bands as usize + slot as usize;
+    line_at(l, line) + l.prefix as usize + before * l.width as usize
+}
+
+// Whether there is such a line and element.
+fn sample_verdict(l: AreaLayout, line: u32, element: u32) -> Verdict
+    ensures { λ r. ⌜ r ≡ firstFault (sampleRules l line element) ⌝ }
+{
+    let bounded = check(Verdict::Pass, area_bounded(l), NO_SUCH, 0);
+    let lines = check(bounded, line < l.lines, NO_SUCH, 0);
+    check(lines, element < l.elements, NO_SUCH, 0)
+}
+
+// The place of a sample of an AREA file, named by line and element, both counted from 0, and channel. Refused with 4 at 19 where a band is named and the band
+// map is unusable, then with 7 where there is no such line, element, slot or band, or the layout is above the bounds that opening sets.
+pub fn sample_place(l: AreaLayout, line: u32, element: u32, channel: Channel) -> PlaceAnswer
+    ensures { λ r. ⌜ placeSays r ≡ samplePlace l line element channel ⌝ }
+{
+    match slot_of(l, channel) {
+        NumberAnswer::Refused(refusal) => PlaceAnswer::Refused(refusal),
+        NumberAnswer::Value(slot) => match sample_verdict(l, line, element) {
+            Verdict::Fault(refusal) => PlaceAnswer::Refused(refusal),
+            Verdict::Pass => PlaceAnswer::At(Place {
+                address: sample_address(l, line, element, slot),
+                width: l.width as usize,
+            }),
+        },
+    }
+}

@@ -1,0 +1,49 @@
+// Where the points of a grid lie, by a layout alone. A layout may be one that a caller has made up: where a field of it is above the bounds that opening sets,
+// there is no such point, and nothing is computed from it.
+use grid_rules::GridLayout;
+use refusal::NO_SUCH;
+use refusal::Place;
+use refusal::PlaceAnswer;
+use refusal::Verdict;
+use refusal::and;
+use refusal::check;
+use refusal::within;
+ghost use mathlib.Core.Path.{_≡_};
+ghost use Rattle.refusal.specs.Answers.{placeSays};
+ghost use Rattle.refusal.specs.Rules.{firstFault};
+ghost use Rattle.grid.specs.Points.{pointWord, IsPoint};
+ghost use Rattle.grid_places.specs.Bounds.{GridBounds};
+ghost use Rattle.grid_places.specs.Places.{pointRules, pointPlace};
+
+// Whether there is such a point.
+fn point_verdict(l: GridLayout, row: u32, column: u32) -> Verdict
+    ensures { λ r. ⌜ r ≡ firstFault (pointRules l row column) ⌝ }
+{
+    let bounded = and(l.rows <= 65535, l.columns <= 65535);
+    let sizes = check(Verdict::Pass, bounded, NO_SUCH, 0);
+    let rows = check(sizes, within(1, l.rows, row), NO_SUCH, 0);
+    check(rows, within(1, l.columns, column), NO_SUCH, 0)
+}
+
+// The word of a point.
+fn point_word(l: GridLayout, row: u32, column: u32) -> usize
+    requires { ⌜ GridBounds l × IsPoint l row column ⌝ }
+    ensures { λ r. ⌜ r ≡ pointWord l row column ⌝ }
+{
+    let before = (column - 1) as usize * l.rows as usize;
+    l.offset as usize + 64 + before + (row - 1) as usize
+}
+
+// The place of a point of a grid, named by row and column, both counted from 1. Refused with 7 where there is no such row or column, or the layout is above
+// the bounds that opening sets.
+pub fn point_place(l: GridLayout, row: u32, column: u32) -> PlaceAnswer
+    ensures { λ r. ⌜ placeSays r ≡ pointPlace l row column ⌝ }
+{
+    match point_verdict(l, row, column) {
+        Verdict::Fault(refusal) => PlaceAnswer::Refused(refusal),
+        Verdict::Pass => PlaceAnswer::At(Place {
+            address: 4 * point_word(l, row, column),
+            width: 4,
+        }),
+    }
+}

@@ -1,0 +1,4 @@
+pub mod Bounds
+pub mod Tables
+pub mod Sizes
+pub mod Places
