@@ -1,123 +1,416 @@
-// What the program `worked` is made of: a file is made of its words, opened, and asked what a table of cases says, or opened with one word after another changed. A
-// line is written to standard output for each of them.
+// What the program `worked` does: it reads a script from standard input, and writes each line of it to standard output with what came back, first with files in big
+// order and then with files in little order. A line is a word and numbers, which may be negative and may have anything but digits between them:
+//
+// - `area LENGTH`, `grid LENGTH NUMBER` and `md LENGTH` make a file of a kind and a length in bytes, at most 16,484, of which the grid of a number will be opened. The
+//   directory of an AREA file holds 0, and each byte i behind it i modulo 256; each word k of the other files holds k. So a value shows where it was read.
+// - `words K=N ..` sets words, each by its number and its value. AREA counts words from 1, the others from 0.
+// - `open` opens the file and keeps its layout, or the one that was kept where opening refuses. `with K N` opens the file with word K as N, and keeps nothing.
+// - the other words in `step` below ask a call of the file, with the layout that was kept and three numbers; see `worked_calls`.
+//
+// Any other line is written as it is.
 use endian::Order;
+use endian::read_number;
+use endian::write_number;
+use layout::Layout;
 use layout::Opening;
 use layout::open_area;
 use layout::open_grid;
 use layout::open_md;
-use worked_calls::ask_cases;
-ghost use mathlib.Core.Path.{_≡_};
-ghost use Prim.Native.Nat.{_/_};
+use libc::STDIN_FILENO;
+use libc::STDOUT_FILENO;
+use md::MdLayout;
+use worked_calls::ask;
+ghost use Prim.Native.Nat.{_≤_};
 ghost use lib.ListN.{length};
 
-mod files;
-mod say;
+// The calls that make, change and open a file. Those below them are the calls of `worked_calls`.
+const AREA: u32 = 22;
 
-use crate::files::make_file;
-use crate::files::set_word;
-use crate::files::set_words;
-use crate::say::print;
-use crate::say::say_change;
-use crate::say::say_opening;
+const MD: u32 = 24;
 
-// The kind of a file: AREA, GRID of which the grid of a number is opened, or MD.
-pub enum Kind {
-    Area,
-    Grid(u32),
-    Md,
-}
+const WORDS: u32 = 25;
 
-// A file by its kind, its byte order and its length in bytes, of which at most 16,484 count. Its words are given by their numbers and values. Of an AREA file every
-// byte i behind the directory that is not given holds i modulo 256, and of the others every word k holds k, so that a value shows where it was read.
-pub struct Subject {
-    pub kind: Kind,
+const OPEN: u32 = 26;
+
+const WITH: u32 = 27;
+
+// The file that a script is at: the call that made it, its byte order, its length, the number of the grid, and the layout that was kept.
+pub struct State {
+    pub kind: u32,
     pub order: Order,
     pub length: usize,
+    pub number: u32,
+    pub layout: Layout,
 }
 
-// Opens a file as its subject says.
-fn open(subject: Subject, file: &[u8]) -> Opening {
-    let kind = subject.kind;
-    let order = subject.order;
-    match kind {
-        Kind::Area => open_area(file),
-        Kind::Grid(number) => open_grid(file, order, number),
-        Kind::Md => open_md(file, order),
+// The numbers of a line, as far as it is read: how many have ended, the one that is asked for, and the digits of the last with whether it has begun and is negative.
+pub struct Numbers {
+    pub count: u32,
+    pub value: u32,
+    pub digits: u64,
+    pub begun: bool,
+    pub negative: bool,
+}
+
+// Writes text.
+fn print(text: &[u8]) {
+    io::write_all(STDOUT_FILENO, text);
+}
+
+// Writes text and a number behind it.
+fn print_number(text: &[u8], n: u64) {
+    print(text);
+    io::print_decimal(STDOUT_FILENO, n);
+}
+
+// Ends a line with what an opening answers.
+fn say_opening(answer: Opening) {
+    match answer {
+        Opening::Opened(_) => print(b": opened\n"),
+        Opening::Refused(refusal) => {
+            print_number(b": refused ", refusal.number as u64);
+            print_number(b" at ", refusal.place);
+            print(b"\n");
+        }
     }
 }
 
-// Makes a file of its words, opens it, and where it opens, asks the cases of a table after the words in `changed` have been set, with the layout of the file as it was
-// opened.
-fn ask_of(
-    name: &[u8],
-    subject: Subject,
-    words: &[u32],
-    changed: &[u32],
-    cases: &[u32],
-    file: &mut [u8],
-) {
-    make_file(subject, words, file);
-    let opening = open(subject, file);
-    print(name);
-    say_opening(opening);
-    if let Opening::Opened(layout) = opening {
-        set_words(subject, changed, file);
-        ask_cases(file, layout, cases);
+// A digit more.
+fn with_digit(s: Numbers, digit: u8) -> Numbers {
+    let digits = if s.digits < 1000000000000 {
+        10 * s.digits + digit as u64
+    } else {
+        s.digits
+    };
+    Numbers {
+        count: s.count,
+        value: s.value,
+        digits: digits,
+        begun: true,
+        negative: s.negative,
     }
 }
 
-// Makes a file of its words with one of them changed, and opens it.
-fn open_with(name: &[u8], subject: Subject, words: &[u32], k: u32, n: u32, file: &mut [u8]) {
-    make_file(subject, words, file);
-    set_word(subject, k, n, file);
-    print(name);
-    say_change(k, n);
-    say_opening(open(subject, file));
+// The word whose digits have been read.
+fn word_of(s: Numbers) -> u32 {
+    let n = s.digits % 4294967296;
+    if s.negative {
+        ((4294967296 - n) % 4294967296) as u32
+    } else {
+        n as u32
+    }
 }
 
-// Opens a file with each of a table of changes.
-fn open_each(name: &[u8], subject: Subject, words: &[u32], changes: &[u32], file: &mut [u8]) {
+// A byte that is no digit: the number that has begun ends. The one that is asked for is kept.
+fn with_end(s: Numbers, byte: u8, asked: u32) -> Numbers {
+    let ended = s.begun;
+    let here = s.count == asked;
+    let value = if here { word_of(s) } else { s.value };
+    let count = if s.count < 1000 { s.count + 1 } else { s.count };
+    Numbers {
+        count: if ended { count } else { s.count },
+        value: if ended { value } else { s.value },
+        digits: 0,
+        begun: false,
+        negative: byte == 45,
+    }
+}
+
+// A byte more.
+fn with_byte(s: Numbers, byte: u8, asked: u32) -> Numbers {
+    if 48 <= byte {
+        if byte <= 57 {
+            return with_digit(s, byte - 48);
+        }
+    }
+    with_end(s, byte, asked)
+}
+
+// The numbers of a line, and of them the one at an index, or 0.
+fn numbers_of(line: &[u8], asked: u32) -> Numbers {
+    let mut s = Numbers {
+        count: 0,
+        value: 0,
+        digits: 0,
+        begun: false,
+        negative: false,
+    };
     let mut i = 0;
-    while i < changes.len() / 2 {
-        let at = 2 * i;
-        open_with(name, subject, words, changes[at], changes[at + 1], file);
+    while i < line.len() {
+        s = with_byte(s, line[i], asked);
+        i += 1;
+    }
+    with_end(s, 32, asked)
+}
+
+// The number of a line at an index, or 0.
+fn number_in(line: &[u8], asked: u32) -> u32 {
+    let s = numbers_of(line, asked);
+    s.value
+}
+
+// A byte of a line, or a space behind its end.
+fn byte_at(line: &[u8], i: usize) -> u8 {
+    if i < line.len() { line[i] } else { 32 }
+}
+
+// Whether a line begins with a name, which has spaces behind it.
+fn is_named(line: &[u8], name: &[u8]) -> bool {
+    let mut i = 0;
+    while i < name.len() {
+        let here = byte_at(line, i);
+        if here != name[i] {
+            return false;
+        }
+        if here == 32 {
+            return true;
+        }
+        i += 1;
+    }
+    true
+}
+
+// The first of a list of names, each of 14 bytes, that a line begins with, or 99.
+fn call_in(line: &[u8], names: &[u8]) -> u32 {
+    let mut call: u32 = 0;
+    while call < 28 {
+        let start = 14 * call as usize;
+        let end = start + 14;
+        if end <= names.len() {
+            if is_named(line, &names[start..end]) {
+                return call;
+            }
+        }
+        call += 1;
+    }
+    99
+}
+
+// Sets word k, where the file has it.
+fn set_word(state: State, k: u32, n: u32, file: &mut [u8]) {
+    let order = state.order;
+    let first = if state.kind == AREA { 1 } else { 0 };
+    if first <= k {
+        let i = (k - first) as usize;
+        if i < file.len() / 4 {
+            write_number(order, 4, file, 4 * i, n);
+        }
+    }
+}
+
+// Word k, where the file has it, or 0.
+fn get_word(state: State, k: u32, file: &[u8]) -> u32 {
+    let order = state.order;
+    let first = if state.kind == AREA { 1 } else { 0 };
+    if first <= k {
+        let i = (k - first) as usize;
+        if i < file.len() / 4 {
+            return read_number(order, 4, file, 4 * i);
+        }
+    }
+    0
+}
+
+// Sets the words of a line.
+fn set_words(state: State, line: &[u8], file: &mut [u8]) {
+    let s = numbers_of(line, 0);
+    let pairs = s.count / 2;
+    let mut i: u32 = 0;
+    while i < pairs {
+        let k = number_in(line, 2 * i);
+        let n = number_in(line, 2 * i + 1);
+        set_word(state, k, n, file);
         i += 1;
     }
 }
 
-// The part of a space that a subject takes.
-fn file_in(subject: Subject, space: &mut [u8]) -> &mut [u8] {
-    let end = subject.length;
-    if end < space.len() {
-        &mut space[0..end]
-    } else {
-        space
+// Fills an AREA file.
+fn fill_bytes(file: &mut [u8]) {
+    let mut i = 0;
+    while i < file.len() {
+        file[i] = if i < 256 { 0 } else { (i % 256) as u8 };
+        i += 1;
     }
 }
 
-// Makes a file of its words, each given by its number and its value, and opens it. Where it opens, sets the words in `changed`, and asks the cases of a table with
-// the layout of the file as it was opened. Answers how many cases the table has.
-pub fn ask(name: &[u8], subject: Subject, words: &[u32], changed: &[u32], cases: &[u32]) -> usize
-    ensures { λ r. ⌜ r ≡ length (now (cases .entry)) / 4 ⌝ }
-{
-    let mut space = [0u8; 16484];
-    ask_of(
-        name,
-        subject,
-        words,
-        changed,
-        cases,
-        file_in(subject, &mut space),
-    );
-    cases.len() / 4
+// Fills a file of another kind.
+fn fill_words(state: State, file: &mut [u8]) {
+    let mut k: u32 = 0;
+    while k < 4121 {
+        set_word(state, k, k, file);
+        k += 1;
+    }
 }
 
-// Makes a file of its words and opens it with one word changed, for each of a table of changes: the number of a word, and what it holds. Answers how many changes
-// the table has.
-pub fn open_changed(name: &[u8], subject: Subject, words: &[u32], changes: &[u32]) -> usize
-    ensures { λ r. ⌜ r ≡ length (now (changes .entry)) / 2 ⌝ }
+// Opens the file.
+fn open(state: State, file: &[u8]) -> Opening {
+    let order = state.order;
+    if state.kind == AREA {
+        return open_area(file);
+    }
+    if state.kind == MD {
+        return open_md(file, order);
+    }
+    open_grid(file, order, state.number)
+}
+
+// The state with a layout kept.
+fn keeping(state: State, layout: Layout) -> State {
+    let order = state.order;
+    State {
+        kind: state.kind,
+        order: order,
+        length: state.length,
+        number: state.number,
+        layout: layout,
+    }
+}
+
+// Opens the file and keeps its layout.
+fn opened(state: State, file: &[u8]) -> State {
+    let opening = open(state, file);
+    say_opening(opening);
+    match opening {
+        Opening::Opened(layout) => keeping(state, layout),
+        Opening::Refused(_) => state,
+    }
+}
+
+// Opens the file with word k as n.
+fn tried(state: State, k: u32, n: u32, file: &mut [u8]) {
+    let old = get_word(state, k, file);
+    set_word(state, k, n, file);
+    say_opening(open(state, file));
+    set_word(state, k, old, file);
+}
+
+// Does what a line that changes the file says.
+fn change(state: State, call: u32, line: &[u8], file: &mut [u8]) {
+    match call {
+        AREA => fill_bytes(file),
+        WORDS => set_words(state, line, file),
+        WITH => tried(state, number_in(line, 0), number_in(line, 1), file),
+        _ => fill_words(state, file),
+    }
+}
+
+// Asks what a line says, or writes nothing.
+fn asked(state: State, call: u32, line: &[u8], file: &[u8]) {
+    let layout = state.layout;
+    let a = number_in(line, 0);
+    let b = number_in(line, 1);
+    let c = number_in(line, 2);
+    if !ask(file, layout, call, a, b, c) {
+        print(b"\n");
+    }
+}
+
+// Does what a line says.
+fn acted(state: State, call: u32, line: &[u8], file: &mut [u8]) -> State {
+    if call == OPEN {
+        return opened(state, file);
+    }
+    if AREA <= call {
+        if call <= WITH {
+            change(state, call, line, file);
+            if call != WITH {
+                print(b"\n");
+            }
+            return state;
+        }
+    }
+    asked(state, call, line, file);
+    state
+}
+
+// The state after a line that makes a file.
+fn making(state: State, call: u32, line: &[u8]) -> State {
+    if AREA <= call {
+        if call <= MD {
+            let order = state.order;
+            let layout = state.layout;
+            return State {
+                kind: call,
+                order: order,
+                length: number_in(line, 0) as usize,
+                number: number_in(line, 1),
+                layout: layout,
+            };
+        }
+    }
+    state
+}
+
+// A line of the script.
+fn step(state: State, line: &[u8], space: &mut [u8]) -> State {
+    let call = call_in(
+        line,
+        b"sample        band-sample   band-slot     line          band-line     dir           nav           cal           aux           data          audit         validity-code documentation calibration   band-list     point         header        by-columns    by-rows       field         record        key           area          grid          md            words         open          with          ",
+    );
+    let made = making(state, call, line);
+    let end = made.length;
+    print(line);
+    if end <= space.len() {
+        acted(made, call, line, &mut space[0..end])
+    } else {
+        made
+    }
+}
+
+// The index of the end of the line that begins at an index.
+fn line_end(text: &[u8], at: usize) -> usize
+    requires { ⌜ at ≤ length (now text) ⌝ }
+    ensures { λ r. ⌜ (at ≤ r) × (r ≤ length (now (text .entry))) ⌝ }
 {
+    let mut end = at;
+    while end < text.len() {
+        if text[end] == 10 {
+            return end;
+        }
+        end += 1;
+    }
+    end
+}
+
+// Runs a script with files in a byte order. The layout at first is one that no file gives.
+fn run(text: &[u8], order: Order, space: &mut [u8]) {
+    let mut state = State {
+        kind: AREA,
+        order: order,
+        length: 0,
+        number: 0,
+        layout: Layout::Md(MdLayout {
+            order: order,
+            length: 0,
+            rows: 0,
+            columns: 0,
+            keys: 0,
+            row_keys: 0,
+            column_keys: 0,
+            data_keys: 0,
+            column_start: 0,
+            data_start: 0,
+        }),
+    };
+    let mut at = 0;
+    while at < text.len() {
+        let end = line_end(text, at);
+        state = step(state, &text[at..end], space);
+        at = end + 1;
+    }
+}
+
+// Reads a script of at most 16,384 bytes from standard input and runs it in both byte orders. Answers how many bytes it took; what they are, the caller of the program
+// decides.
+pub fn answer_standard_input() -> usize
+    ensures { λ r. ⌜ r ≤ 16384 ⌝ }
+{
+    let mut text = [0u8; 16384];
     let mut space = [0u8; 16484];
-    open_each(name, subject, words, changes, file_in(subject, &mut space));
-    changes.len() / 2
+    let taken = io::read_full(STDIN_FILENO, &mut text);
+    print(b"BIG ORDER\n");
+    run(&text[..taken], Order::Big, &mut space);
+    print(b"LITTLE ORDER\n");
+    run(&text[..taken], Order::Little, &mut space);
+    taken
 }

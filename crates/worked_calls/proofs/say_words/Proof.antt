@@ -1,10 +1,10 @@
--- `worked_calls::say::say_words` meets its contract: it ends, and reads inside the output.
+-- `worked_calls::say_words` meets its contract: it ends, and reads inside the output.
 -- Assumes nothing.
 use Prim.Native.Nat.{_-_, _≤_}
 use lib.ListN.{length}
 use borrow.Author.Needs.{needs}
-use Rattle.worked_calls.proofs.say.say_words.Statement.{statement}
-use Rattle.worked_calls.proofs.say.say_words.Tie as tie
+use Rattle.worked_calls.proofs.say_words.Statement.{statement}
+use Rattle.worked_calls.proofs.say_words.Tie as tie
 
 abbrev Inv-loop : tie.InvT-loop
 Inv-loop out i₀ t3 t4 i = i ≤ length out

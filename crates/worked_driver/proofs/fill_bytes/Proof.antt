@@ -1,26 +1,29 @@
--- `worked_driver::files::number_words` meets its contract: it ends.
+-- `worked_driver::fill_bytes` meets its contract: it ends, and writes inside the file.
 -- Assumes nothing.
 use mathlib.Core.Path.{_≡_}
 use Prim.Native.Nat.{_-_}
 use lib.ListN.{length}
 use borrow.Author.Needs.{needs}
-use Rattle.worked_driver.proofs.files.number_words.Statement.{statement}
-use Rattle.worked_driver.proofs.files.number_words.Tie as tie
+use Rattle.worked_driver.proofs.fill_bytes.Statement.{statement}
+use Rattle.worked_driver.proofs.fill_bytes.Tie as tie
 
 abbrev Inv-loop : tie.InvT-loop
-Inv-loop subject file₀ k₀ file k = length file ≡ length file₀
+Inv-loop file₀ i₀ file i = length file ≡ length file₀
 
 abbrev μ-loop : tie.MeasureT-loop
-μ-loop subject file₀ k₀ file k = 4121 - k
+μ-loop file₀ i₀ file i = length file₀ - i
 
 loop-holds : tie.Need-loop-holds Inv-loop μ-loop
 loop-holds c = search needs
 
-set-word-requires : tie.Need-set-word-requires Inv-loop μ-loop
-set-word-requires c κs = search needs
+cast-file : tie.Need-cast-file Inv-loop μ-loop
+cast-file c = search needs
 
-add-k : tie.Need-add-k Inv-loop μ-loop
-add-k c = search needs
+slice-write-file : tie.Need-slice-write-file Inv-loop μ-loop
+slice-write-file c = search needs
+
+add-i : tie.Need-add-i Inv-loop μ-loop
+add-i c = search needs
 
 loop-less : tie.Need-loop-less Inv-loop μ-loop
 loop-less c = search needs
@@ -34,15 +37,16 @@ same-length c = search needs
 returns : tie.Need-returns Inv-loop μ-loop
 returns c = search needs
 
-pub number-words-spec : {M : Type 1} → statement M
-number-words-spec =
+pub fill-bytes-spec : {M : Type 1} → statement M
+fill-bytes-spec =
     tie.close
     (tie.spec
     Inv-loop
     μ-loop
     loop-holds
-    set-word-requires
-    add-k
+    cast-file
+    slice-write-file
+    add-i
     loop-less
     loop-again
     same-length
