@@ -23,33 +23,37 @@ use worked_calls::ask;
 ghost use Prim.Native.Nat.{_≤_};
 ghost use lib.ListN.{length};
 
-// The calls that make, change and open a file. Those below them are the calls of `worked_calls`.
+// The number of `area`, the first word that is no call of `worked_calls`. `grid` has the next.
 const AREA: u32 = 22;
 
+// That of `md`.
 const MD: u32 = 24;
 
+// That of `words`.
 const WORDS: u32 = 25;
 
+// That of `open`.
 const OPEN: u32 = 26;
 
+// That of `with`, the last.
 const WITH: u32 = 27;
 
 // The file that a script is at: the call that made it, its byte order, its length, the number of the grid, and the layout that was kept.
-pub struct State {
-    pub kind: u32,
-    pub order: Order,
-    pub length: usize,
-    pub number: u32,
-    pub layout: Layout,
+struct State {
+    kind: u32,
+    order: Order,
+    length: usize,
+    number: u32,
+    layout: Layout,
 }
 
 // The numbers of a line, as far as it is read: how many have ended, the one that is asked for, and the digits of the last with whether it has begun and is negative.
-pub struct Numbers {
-    pub count: u32,
-    pub value: u32,
-    pub digits: u64,
-    pub begun: bool,
-    pub negative: bool,
+struct Numbers {
+    count: u32,
+    value: u32,
+    digits: u64,
+    begun: bool,
+    negative: bool,
 }
 
 // Writes text.
