@@ -21,7 +21,14 @@ check-requires-2 c κs = search needs
 
 returns : tie.Need-returns
 unfolding recordRules chained
-returns c = by-table _ (cc)
+returns c =
+    by-table _
+    (rw (
+      c .check2 .ensures,
+      c .before .within2 .ensures,
+      c .before .before .check .ensures,
+      c .before .before .before .within .ensures,
+    ))
 
 pub record-verdict-spec : {M : Type 1} → statement M
 record-verdict-spec =

@@ -21,7 +21,14 @@ check-requires-3 c κs = search needs
 
 returns : tie.Need-returns
 unfolding partRules chained
-returns c = by-table _ (cc)
+returns c =
+    by-table _
+    (rw (
+      c .check3 .ensures,
+      c .before .before .check2 .ensures,
+      c .before .before .before .before .check .ensures,
+      c .before .before .before .before .before .md-bounded .ensures,
+    ))
 
 pub part-verdict-spec : {M : Type 1} → statement M
 part-verdict-spec =
