@@ -1,26 +1,21 @@
--- The spans of blocks and prefix regions. One that is given is inside the file, and has bytes; it is given exactly where the block is present, or the line has
--- the region.
+-- The spans of blocks. One that is given is inside the file, and has bytes; it is given exactly where the block is present.
 -- Assumes nothing.
 use mathlib.Core.Path.{_≡_, refl, sym, subst}
 use mathlib.Core.Bool.{true}
 use mathlib.Core.Logic.{_↔_}
-use mathlib.Core.List.{List, [], _∷_}
-use Prim.Native.Nat.{ℕ, _+_, _≤_, _<_}
+use mathlib.Core.List.{List}
+use Prim.Native.Nat.{ℕ, _+_, _≤_}
 use native.Mathlib.Nat.{le-refl}
 use native.Mathlib.Omega.{arith}
 use lib.ListN.{length}
 use Rattle.refusal.specs.Answers.{Answer, gives, refuses, andThen}
-use Rattle.refusal.specs.Rules.{tabled, Hold}
 use Rattle.refusal.proofs.Answers.{then-gives, value-exactly, never-refused}
-use Rattle.refusal.proofs.Exactness.{lt-exactly, eq-exactly, not-exactly}
 use Rattle.refusal.proofs.Tables.{also}
 use Rattle.area.specs.Samples.{dataEndIn, AreaFits, AreaOf}
-use Rattle.area.specs.Blocks.{present, blockStart, blockLength, regionStart, regionLength}
+use Rattle.area.specs.Blocks.{present, blockStart, blockLength}
 use Rattle.area.specs.declared.AreaLayout.{AreaLayout}
 use Rattle.area.specs.declared.Block.{Block}
-use Rattle.area.specs.declared.Region.{Region}
 use Rattle.area.proofs.Blocks.{block-inside}
-use Rattle.area.proofs.Regions.{region-inside}
 use Rattle.area_places.specs.Places.{lineStartOf}
 use Rattle.area_places.proofs.Places.{line-begins}
 use Rattle.layout.specs.Found.{areaOf}
@@ -29,7 +24,7 @@ use Rattle.layout.specs.declared.Layout.{Layout}
 use Rattle.layout.proofs.OneKind.{area-known, area-nine}
 use Rattle.parts.specs.Spans.{span, Inside}
 use Rattle.parts.specs.declared.Span.{Span}
-use Rattle.area_parts.specs.Spans.{blockRules, blockOf, blockSpan, regionRules, regionOf, regionSpan}
+use Rattle.area_parts.specs.Spans.{blockRules, blockOf, blockSpan}
 
 -- ---- where lines begin
 
@@ -54,36 +49,6 @@ module _ (l : AreaLayout) (b : Block) where
       let (some, inside) = block-inside l fits b here in
       subst (λ (x : Span). (1 ≤ x .length) × (x .start + x .length ≤ l .length)) (sym same) (omega arith, omega arith)
 
--- ---- prefix regions
-
--- 7 for the line comes before 6 for the length
-pub region-order : (l : AreaLayout) (i : ℕ) (r : Region) → tabled (regionRules l i r) ≡ (7, 0) ∷ (6, 0) ∷ []
-unfolding tabled regionRules
-region-order l i r = refl
-
-module _ (l : AreaLayout) (i : ℕ) (r : Region) where
-  -- the rules of a region hold exactly where there is such a line and the region has bytes
-  pub region-hold : Hold (regionRules l i r) ↔ ((i < l .lines) × (¬ (regionLength l r ≡ 0)))
-  unfolding regionRules
-  region-hold =
-      let line = lt-exactly i (l .lines) in
-      let some = not-exactly (eq-exactly (regionLength l r) 0) in
-      (λ h. (line .sound (h .0), some .sound (h .1 .0)), λ h. also (line .complete (h .0)) (also (some .complete (h .1)) tt))
-
-  -- a region has a span exactly there, and then its own
-  pub region-exactly : (s : Span)
-      → (regionOf l i r ≡ gives s) ↔ (((i < l .lines) × (¬ (regionLength l r ≡ 0))) × (s ≡ span (regionStart l i r) (regionLength l r)))
-  unfolding regionOf
-  region-exactly s =
-      let x = value-exactly (regionRules l i r) (span (regionStart l i r) (regionLength l r)) s in
-      (λ e. (region-hold .0 (x .0 e .0), x .0 e .1), λ h. x .1 (region-hold .1 (h .0), h .1))
-
-  -- it has bytes, and is inside the file
-  pub region-bounds : AreaFits l → (s : Span) → regionOf l i r ≡ gives s → (1 ≤ s .length) × (s .start + s .length ≤ l .length)
-  region-bounds fits s e =
-      let ((line, some), same) = region-exactly s .0 e in
-      subst (λ (x : Span). (1 ≤ x .length) × (x .start + x .length ≤ l .length)) (sym same) (omega (arith, some), region-inside l fits i line r)
-
 -- ---- the parts of a file
 
 -- a span that is given is inside, where every one that may be given is
@@ -92,7 +57,7 @@ inside-given f (gives s) h = h s refl
 inside-given f (refuses n p) h = tt
 
 -- so are those that an accepted AREA file gives
-found-inside : (f : List ℕ) (l : Layout) (own : AreaLayout → Answer Span)
+pub found-inside : (f : List ℕ) (l : Layout) (own : AreaLayout → Answer Span)
     → ((a : AreaLayout) → AreaFits a → (s : Span) → own a ≡ gives s → s .start + s .length ≤ a .length) → Inside f (andThen (areaOf f l) own)
 found-inside f l own h =
     inside-given f (andThen (areaOf f l) own)
@@ -105,19 +70,9 @@ found-inside f l own h =
 pub block-in-file : (f : List ℕ) (l : Layout) (b : Block) → Inside f (blockSpan f l b)
 block-in-file f l b = found-inside f l (λ a. blockOf a b) (λ a fits s e. block-bounds a b fits s e .1)
 
--- and a region
-pub region-in-file : (f : List ℕ) (l : Layout) (i : ℕ) (r : Region) → Inside f (regionSpan f l i r)
-region-in-file f l i r = found-inside f l (λ a. regionOf a i r) (λ a fits s e. region-bounds a i r fits s e .1)
-
 -- ---- stale layouts
 
 -- a block is refused with 9 exactly where the layout is stale
 pub block-stale : (f : List ℕ) (l : Layout) (b : Block) → (blockSpan f l b ≡ refuses 9 0) ↔ (¬ Fresh f l)
 unfolding blockOf blockRules
 block-stale f l b = area-nine f l (λ a. blockOf a b) (λ a. never-refused (blockRules a b) _ 9 0 (λ e. omega (arith, e), tt))
-
--- and a region
-pub region-stale : (f : List ℕ) (l : Layout) (i : ℕ) (r : Region) → (regionSpan f l i r ≡ refuses 9 0) ↔ (¬ Fresh f l)
-unfolding regionOf regionRules
-region-stale f l i r =
-    area-nine f l (λ a. regionOf a i r) (λ a. never-refused (regionRules a i r) _ 9 0 (λ e. omega (arith, e), (λ e. omega (arith, e), tt)))

@@ -1,16 +1,15 @@
--- The blocks and the prefix regions of an AREA file, each by its start and length in bytes or its refusal: document 01, "AREA" and "What comes back". Each call
--- refuses 9, then 7 for the kind, then the other 7s, then 6 for an absent block or a region of length 0.
+-- The blocks of an AREA file, each by its start and length in bytes or its refusal: document 01, "AREA" and "What comes back". Each call refuses 9, then 7 for the
+-- kind, then 6 for an absent block.
 -- Assumes nothing.
 use mathlib.Core.Bool.{not}
 use mathlib.Core.List.{List, [], _∷_}
 use Prim.Native.Nat.{ℕ, _-_}
-use lib.Dec.{ltb, eqb}
+use lib.Dec.{eqb}
 use Rattle.refusal.specs.Answers.{Answer, answered, andThen}
 use Rattle.refusal.specs.Rules.{Rule, rule, firstFault}
-use Rattle.area.specs.Blocks.{nextStart, starts, blockStart, blockLength, present, regionStart, regionLength}
+use Rattle.area.specs.Blocks.{nextStart, starts, blockStart, blockLength, present}
 use Rattle.area.specs.declared.AreaLayout.{AreaLayout}
 use Rattle.area.specs.declared.Block.{Block}
-use Rattle.area.specs.declared.Region.{Region}
 use Rattle.layout.specs.Found.{areaOf}
 use Rattle.layout.specs.declared.Layout.{Layout}
 use Rattle.parts.specs.Spans.{span}
@@ -31,15 +30,3 @@ blockOf l b = answered (firstFault (blockRules l b)) (span (blockStart l b) (blo
 -- of a file
 abbrev pub blockSpan : List ℕ → Layout → Block → Answer Span
 blockSpan f l b = andThen (areaOf f l) (λ a. blockOf a b)
-
--- a region of a line's prefix: 7 where there is no such line, then 6 where the region has length 0
-unfoldable pub regionRules : AreaLayout → ℕ → Region → List Rule
-regionRules l i r = rule (ltb i (l .lines)) 7 0 ∷ rule (not (eqb (regionLength l r) 0)) 6 0 ∷ []
-
--- its span
-unfoldable pub regionOf : AreaLayout → ℕ → Region → Answer Span
-regionOf l i r = answered (firstFault (regionRules l i r)) (span (regionStart l i r) (regionLength l r))
-
--- of a file
-abbrev pub regionSpan : List ℕ → Layout → ℕ → Region → Answer Span
-regionSpan f l i r = andThen (areaOf f l) (λ a. regionOf a i r)

@@ -1,8 +1,8 @@
 // The parts of a GRID file: the header of a grid, and a whole grid copied by columns or by rows.
+use found::grid_of;
 use grid_rules::GridLayout;
 use grid_rules::GridOpening;
 use layout::Layout;
-use layout::grid_of;
 use parts::Span;
 use parts::SpanAnswer;
 use parts::hand_back;

@@ -1,6 +1,6 @@
 // The keys of an MD file: the position of a key by its name.
+use found::md_of;
 use layout::Layout;
-use layout::md_of;
 use md::MdLayout;
 use md::MdOpening;
 use refusal::NO_SUCH;

@@ -1,6 +1,6 @@
 // The parts of an MD file: a complete record, copied into a lent output.
+use found::md_of;
 use layout::Layout;
-use layout::md_of;
 use md::MdLayout;
 use md::MdOpening;
 use md_places::part_start;

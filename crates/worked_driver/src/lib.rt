@@ -5,7 +5,7 @@
 //   directory of an AREA file holds 0, and each byte i behind it i modulo 256; each word k of the other files holds k. So a value shows where it was read.
 // - `words K=N ..` sets words, each by its number and its value. AREA counts words from 1, the others from 0.
 // - `open` opens the file and keeps its layout, or the one that was kept where opening refuses. `with K N` opens the file with word K as N, and keeps nothing.
-// - the other words in `step` below ask a call of the file, with the layout that was kept and three numbers; see `worked_calls`.
+// - the other words in `call_of` below ask a call of the file, with the layout that was kept and three numbers; see `worked_calls`.
 //
 // Any other line is written as it is.
 use endian::Order;
@@ -38,13 +38,12 @@ const OPEN: u32 = 26;
 // That of `with`, the last.
 const WITH: u32 = 27;
 
-// The file that a script is at: the call that made it, its byte order, its length, the number of the grid, and the layout that was kept.
-struct State {
+// The file that a script is at: the number of the word that made it, its byte order, its length, and the number of the grid.
+struct Subject {
     kind: u32,
     order: Order,
     length: usize,
     number: u32,
-    layout: Layout,
 }
 
 // The numbers of a line, as far as it is read: how many have ended, the one that is asked for, and the digits of the last with whether it has begun and is negative.
@@ -61,19 +60,15 @@ fn print(text: &[u8]) {
     io::write_all(STDOUT_FILENO, text);
 }
 
-// Writes text and a number behind it.
-fn print_number(text: &[u8], n: u64) {
-    print(text);
-    io::print_decimal(STDOUT_FILENO, n);
-}
-
 // Ends a line with what an opening answers.
 fn say_opening(answer: Opening) {
     match answer {
         Opening::Opened(_) => print(b": opened\n"),
         Opening::Refused(refusal) => {
-            print_number(b": refused ", refusal.number as u64);
-            print_number(b" at ", refusal.place);
+            print(b": refused ");
+            io::print_decimal(STDOUT_FILENO, refusal.number as u64);
+            print(b" at ");
+            io::print_decimal(STDOUT_FILENO, refusal.place);
             print(b"\n");
         }
     }
@@ -105,15 +100,31 @@ fn word_of(s: Numbers) -> u32 {
     }
 }
 
-// A byte that is no digit: the number that has begun ends. The one that is asked for is kept.
-fn with_end(s: Numbers, byte: u8, asked: u32) -> Numbers {
-    let ended = s.begun;
-    let here = s.count == asked;
-    let value = if here { word_of(s) } else { s.value };
+// The number that has begun ends. The one that is asked for is kept.
+fn ended(s: Numbers, asked: u32, negative: bool) -> Numbers {
+    let value = if s.count == asked {
+        word_of(s)
+    } else {
+        s.value
+    };
     let count = if s.count < 1000 { s.count + 1 } else { s.count };
     Numbers {
-        count: if ended { count } else { s.count },
-        value: if ended { value } else { s.value },
+        count: count,
+        value: value,
+        digits: 0,
+        begun: false,
+        negative: negative,
+    }
+}
+
+// A byte that is no digit.
+fn with_end(s: Numbers, byte: u8, asked: u32) -> Numbers {
+    if s.begun {
+        return ended(s, asked, byte == 45);
+    }
+    Numbers {
+        count: s.count,
+        value: s.value,
         digits: 0,
         begun: false,
         negative: byte == 45,
@@ -190,40 +201,30 @@ fn call_in(line: &[u8], names: &[u8]) -> u32 {
     99
 }
 
-// Sets word k, where the file has it.
-fn set_word(state: State, k: u32, n: u32, file: &mut [u8]) {
-    let order = state.order;
-    let first = if state.kind == AREA { 1 } else { 0 };
+// Sets word k, where the file has it, and answers what it held, or 0.
+fn set_word(subject: Subject, k: u32, n: u32, file: &mut [u8]) -> u32 {
+    let order = subject.order;
+    let first = if subject.kind == AREA { 1 } else { 0 };
     if first <= k {
         let i = (k - first) as usize;
         if i < file.len() / 4 {
+            let old = read_number(order, 4, file, 4 * i);
             write_number(order, 4, file, 4 * i, n);
-        }
-    }
-}
-
-// Word k, where the file has it, or 0.
-fn get_word(state: State, k: u32, file: &[u8]) -> u32 {
-    let order = state.order;
-    let first = if state.kind == AREA { 1 } else { 0 };
-    if first <= k {
-        let i = (k - first) as usize;
-        if i < file.len() / 4 {
-            return read_number(order, 4, file, 4 * i);
+            return old;
         }
     }
     0
 }
 
 // Sets the words of a line.
-fn set_words(state: State, line: &[u8], file: &mut [u8]) {
+fn set_words(subject: Subject, line: &[u8], file: &mut [u8]) {
     let s = numbers_of(line, 0);
     let pairs = s.count / 2;
     let mut i: u32 = 0;
     while i < pairs {
         let k = number_in(line, 2 * i);
         let n = number_in(line, 2 * i + 1);
-        set_word(state, k, n, file);
+        set_word(subject, k, n, file);
         i += 1;
     }
 }
@@ -238,69 +239,54 @@ fn fill_bytes(file: &mut [u8]) {
 }
 
 // Fills a file of another kind.
-fn fill_words(state: State, file: &mut [u8]) {
+fn fill_words(subject: Subject, file: &mut [u8]) {
     let mut k: u32 = 0;
     while k < 4121 {
-        set_word(state, k, k, file);
+        set_word(subject, k, k, file);
         k += 1;
     }
 }
 
 // Opens the file.
-fn open(state: State, file: &[u8]) -> Opening {
-    let order = state.order;
-    if state.kind == AREA {
+fn open(subject: Subject, file: &[u8]) -> Opening {
+    let order = subject.order;
+    if subject.kind == AREA {
         return open_area(file);
     }
-    if state.kind == MD {
+    if subject.kind == MD {
         return open_md(file, order);
     }
-    open_grid(file, order, state.number)
+    open_grid(file, order, subject.number)
 }
 
-// The state with a layout kept.
-fn keeping(state: State, layout: Layout) -> State {
-    let order = state.order;
-    State {
-        kind: state.kind,
-        order: order,
-        length: state.length,
-        number: state.number,
-        layout: layout,
-    }
-}
-
-// Opens the file and keeps its layout.
-fn opened(state: State, file: &[u8]) -> State {
-    let opening = open(state, file);
+// Opens the file. Answers its layout, or the one that was kept.
+fn opened(subject: Subject, kept: Layout, file: &[u8]) -> Layout {
+    let opening = open(subject, file);
     say_opening(opening);
     match opening {
-        Opening::Opened(layout) => keeping(state, layout),
-        Opening::Refused(_) => state,
+        Opening::Opened(layout) => layout,
+        Opening::Refused(_) => kept,
     }
 }
 
 // Opens the file with word k as n.
-fn tried(state: State, k: u32, n: u32, file: &mut [u8]) {
-    let old = get_word(state, k, file);
-    set_word(state, k, n, file);
-    say_opening(open(state, file));
-    set_word(state, k, old, file);
+fn tried(subject: Subject, k: u32, n: u32, file: &mut [u8]) {
+    let old = set_word(subject, k, n, file);
+    say_opening(open(subject, file));
+    set_word(subject, k, old, file);
 }
 
-// Does what a line that changes the file says.
-fn change(state: State, call: u32, line: &[u8], file: &mut [u8]) {
+// Does what a line that makes a file, or sets its words, says.
+fn change(subject: Subject, call: u32, line: &[u8], file: &mut [u8]) {
     match call {
         AREA => fill_bytes(file),
-        WORDS => set_words(state, line, file),
-        WITH => tried(state, number_in(line, 0), number_in(line, 1), file),
-        _ => fill_words(state, file),
+        WORDS => set_words(subject, line, file),
+        _ => fill_words(subject, file),
     }
 }
 
 // Asks what a line says, or writes nothing.
-fn asked(state: State, call: u32, line: &[u8], file: &[u8]) {
-    let layout = state.layout;
+fn asked(layout: Layout, call: u32, line: &[u8], file: &[u8]) {
     let a = number_in(line, 0);
     let b = number_in(line, 1);
     let c = number_in(line, 2);
@@ -309,56 +295,48 @@ fn asked(state: State, call: u32, line: &[u8], file: &[u8]) {
     }
 }
 
-// Does what a line says.
-fn acted(state: State, call: u32, line: &[u8], file: &mut [u8]) -> State {
+// Does what a line says to a file. Answers the layout that is kept.
+fn acted(subject: Subject, kept: Layout, call: u32, line: &[u8], file: &mut [u8]) -> Layout {
     if call == OPEN {
-        return opened(state, file);
+        return opened(subject, kept, file);
+    }
+    if call == WITH {
+        tried(subject, number_in(line, 0), number_in(line, 1), file);
+        return kept;
     }
     if AREA <= call {
-        if call <= WITH {
-            change(state, call, line, file);
-            if call != WITH {
-                print(b"\n");
-            }
-            return state;
+        if call <= WORDS {
+            change(subject, call, line, file);
+            print(b"\n");
+            return kept;
         }
     }
-    asked(state, call, line, file);
-    state
+    asked(kept, call, line, file);
+    kept
 }
 
-// The state after a line that makes a file.
-fn making(state: State, call: u32, line: &[u8]) -> State {
+// The subject after a line, which may make another file.
+fn making(subject: Subject, call: u32, line: &[u8]) -> Subject {
     if AREA <= call {
         if call <= MD {
-            let order = state.order;
-            let layout = state.layout;
-            return State {
+            let order = subject.order;
+            return Subject {
                 kind: call,
                 order: order,
                 length: number_in(line, 0) as usize,
                 number: number_in(line, 1),
-                layout: layout,
             };
         }
     }
-    state
+    subject
 }
 
-// A line of the script.
-fn step(state: State, line: &[u8], space: &mut [u8]) -> State {
-    let call = call_in(
+// The number of the word that a line begins with: a call of `worked_calls`, in their order, or one of those above.
+fn call_of(line: &[u8]) -> u32 {
+    call_in(
         line,
         b"sample        band-sample   band-slot     line          band-line     dir           nav           cal           aux           data          audit         validity-code documentation calibration   band-list     point         header        by-columns    by-rows       field         record        key           area          grid          md            words         open          with          ",
-    );
-    let made = making(state, call, line);
-    let end = made.length;
-    print(line);
-    if end <= space.len() {
-        acted(made, call, line, &mut space[0..end])
-    } else {
-        made
-    }
+    )
 }
 
 // The index of the end of the line that begins at an index.
@@ -376,30 +354,48 @@ fn line_end(text: &[u8], at: usize) -> usize
     end
 }
 
+// A line of the script. Answers the layout that is kept.
+fn step(subject: Subject, kept: Layout, call: u32, line: &[u8], space: &mut [u8]) -> Layout {
+    let end = subject.length;
+    print(line);
+    if end <= space.len() {
+        acted(subject, kept, call, line, &mut space[0..end])
+    } else {
+        kept
+    }
+}
+
+// A layout that no file gives.
+fn no_layout(order: Order) -> Layout {
+    Layout::Md(MdLayout {
+        order: order,
+        length: 0,
+        rows: 0,
+        columns: 0,
+        keys: 0,
+        row_keys: 0,
+        column_keys: 0,
+        data_keys: 0,
+        column_start: 0,
+        data_start: 0,
+    })
+}
+
 // Runs a script with files in a byte order. The layout at first is one that no file gives.
 fn run(text: &[u8], order: Order, space: &mut [u8]) {
-    let mut state = State {
+    let mut kept = no_layout(order);
+    let mut subject = Subject {
         kind: AREA,
         order: order,
         length: 0,
         number: 0,
-        layout: Layout::Md(MdLayout {
-            order: order,
-            length: 0,
-            rows: 0,
-            columns: 0,
-            keys: 0,
-            row_keys: 0,
-            column_keys: 0,
-            data_keys: 0,
-            column_start: 0,
-            data_start: 0,
-        }),
     };
     let mut at = 0;
     while at < text.len() {
         let end = line_end(text, at);
-        state = step(state, &text[at..end], space);
+        let call = call_of(&text[at..end]);
+        subject = making(subject, call, &text[at..end]);
+        kept = step(subject, kept, call, &text[at..end], space);
         at = end + 1;
     }
 }

@@ -8,10 +8,10 @@ use Rattle.worked_driver.proofs.fill_words.Statement.{statement}
 use Rattle.worked_driver.proofs.fill_words.Tie as tie
 
 abbrev Inv-loop : tie.InvT-loop
-Inv-loop state file₀ k₀ file k = length file ≡ length file₀
+Inv-loop subject file₀ k₀ file k = length file ≡ length file₀
 
 abbrev μ-loop : tie.MeasureT-loop
-μ-loop state file₀ k₀ file k = 4121 - k
+μ-loop subject file₀ k₀ file k = 4121 - k
 
 loop-holds : tie.Need-loop-holds Inv-loop μ-loop
 loop-holds c = search needs

@@ -8,10 +8,10 @@ use Rattle.worked_driver.proofs.set_words.Statement.{statement}
 use Rattle.worked_driver.proofs.set_words.Tie as tie
 
 abbrev Inv-loop : tie.InvT-loop
-Inv-loop state line file₀ pairs i₀ file i = length file ≡ length file₀
+Inv-loop subject line file₀ pairs i₀ file i = length file ≡ length file₀
 
 abbrev μ-loop : tie.MeasureT-loop
-μ-loop state line file₀ pairs i₀ file i = pairs - i
+μ-loop subject line file₀ pairs i₀ file i = pairs - i
 
 numbers-of-requires : tie.Need-numbers-of-requires Inv-loop μ-loop
 numbers-of-requires c κs = search needs
