@@ -18,7 +18,7 @@ use Rattle.refusal.specs.Rules.{rule, judge, first, firstFault}
 use Rattle.refusal.specs.declared.Place.{Place}
 use Rattle.refusal.specs.declared.Verdict.{Verdict}
 use Rattle.refusal.specs.declared.Verdict.the-variants.{Pass, Fault}
-use Rattle.refusal.proofs.Answers.{then-gives, then-never, value-exactly, never-refused}
+use Rattle.refusal.proofs.Answers.{then-gives, then-never, value-exactly, never-refused, nine}
 use Rattle.refusal.proofs.Tables.{also}
 use Rattle.area.specs.Samples.{sampleAddress, AreaFits, AreaOf}
 use Rattle.area.specs.declared.AreaLayout.{AreaLayout}
@@ -147,7 +147,7 @@ line-reads f l i c xs x =
 
 -- the slot of a band is refused with 9 exactly where the layout is stale
 pub slot-stale : (f : List ℕ) (l : Layout) (b : ℕ) → (slotIn f l b ≡ refuses 9 0) ↔ (¬ Fresh f l)
-slot-stale f l b = area-nine f l (λ a. slotOf a (Band b)) (λ a. slot-never a (Band b))
+slot-stale f l b = area-nine f l (λ a. slotOf a (Band b)) (λ a. slot-never 9 nine a (Band b))
 
 -- a line that is not yet copied
 given-stale : (f : List ℕ) (l : Layout) (i : ℕ) (c : Channel) → (lineOf f l i c ≡ refuses 9 0) ↔ (¬ Fresh f l)
@@ -155,7 +155,7 @@ unfolding channelLine
 given-stale f l i c =
     area-nine f l (λ a. channelLine f a i c)
     (λ a.
-    then-never _ (slotOf a c) 9 0 (slot-never a c)
+    then-never _ (slotOf a c) 9 0 (slot-never 9 nine a c)
     (λ s. never-refused (rule (ltb i (a .lines)) 7 0 ∷ []) (slotLine f a i s) 9 0 (λ e. omega (arith, e), tt)))
 
 -- and its copy

@@ -3,10 +3,10 @@
 -- Assumes nothing.
 use mathlib.Core.Path.{_≡_, refl}
 use mathlib.Core.Logic.{_↔_}
-use Prim.Native.Nat.{ℕ, _≤_}
+use Prim.Native.Nat.{ℕ, _≤_, _<_}
 use Rattle.refusal.specs.Answers.{gives, refuses, place}
 use Rattle.refusal.specs.declared.Place.{Place}
-use Rattle.refusal.proofs.Answers.{then-gives, then-never, value-exactly, never-refused, seven-not-nine}
+use Rattle.refusal.proofs.Answers.{then-gives, then-never, value-exactly, never-refused, above-seven}
 use Rattle.area.specs.Samples.{lineStart, sampleAddress, IsSample, AreaFits}
 use Rattle.area.specs.declared.AreaLayout.{AreaLayout}
 use Rattle.bands.specs.Bands.{slotOf}
@@ -44,9 +44,9 @@ module _ (l : AreaLayout) (fits : AreaFits l) where
         ),
   )
 
--- the place of a sample, by a layout alone, is never refused with 9
-pub sample-never : (l : AreaLayout) (i e : ℕ) (c : Channel) → ¬ (samplePlace l i e c ≡ refuses 9 0)
+-- the place of a sample, by a layout alone, is never refused with a number above 7
+pub sample-never : (n : ℕ) → 7 < n → (l : AreaLayout) (i e : ℕ) (c : Channel) → ¬ (samplePlace l i e c ≡ refuses n 0)
 unfolding samplePlace sampleRules
-sample-never l i e c =
-    then-never _ (slotOf l c) 9 0 (slot-never l c)
-    (λ s. never-refused (sampleRules l i e) _ 9 0 (seven-not-nine, (seven-not-nine, (seven-not-nine, tt))))
+sample-never n h l i e c =
+    then-never _ (slotOf l c) n 0 (slot-never n h l c)
+    (λ s. never-refused (sampleRules l i e) _ n 0 (above-seven h, (above-seven h, (above-seven h, tt))))

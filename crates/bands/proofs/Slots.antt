@@ -105,9 +105,9 @@ pub slot-inside : (l : AreaLayout) (c : Channel) (s : ℕ) → slotOf l c ≡ gi
 slot-inside l (Slot t) s e = omega (arith, slot-itself l t s .0 e .0, slot-itself l t s .0 e .1)
 slot-inside l (Band b) s e = band-inside (l .map) (l .map2) (l .bands) b s e
 
--- refusal 9 is left to layouts that are stale
-pub slot-never : (l : AreaLayout) (c : Channel) → ¬ (slotOf l c ≡ refuses 9 0)
+-- no number above 7 is given: 8 is left to stores, and 9 to layouts that are stale
+pub slot-never : (n : ℕ) → 7 < n → (l : AreaLayout) (c : Channel) → ¬ (slotOf l c ≡ refuses n 0)
 unfolding bandSlot bandRules
-slot-never l (Slot s) = never-refused (rule (ltb s (l .bands)) 7 0 ∷ []) s 9 0 (λ e. omega (arith, e), tt)
-slot-never l (Band b) =
-    never-refused (bandRules (l .map) (l .map2) (l .bands) b) (setBelow (l .map) (l .map2) (b - 1)) 9 0 (λ e. omega (arith, e), (λ e. omega (arith, e), tt))
+slot-never n h l (Slot s) = never-refused (rule (ltb s (l .bands)) 7 0 ∷ []) s n 0 (λ e. omega (arith, e, h), tt)
+slot-never n h l (Band b) =
+    never-refused (bandRules (l .map) (l .map2) (l .bands) b) (setBelow (l .map) (l .map2) (b - 1)) n 0 (λ e. omega (arith, e, h), (λ e. omega (arith, e, h), tt))

@@ -78,8 +78,8 @@ fn signed(n: u32) -> i32
     }
 }
 
-// The 32 bits of a two's-complement word.
-fn unsigned(v: i32) -> u32
+// The 32 bits of a two's-complement word, as an unsigned number.
+pub fn unsigned(v: i32) -> u32
     ensures { λ r. ⌜ r ≡ ofZ w32 v ⌝ }
 {
     if 0 <= v {

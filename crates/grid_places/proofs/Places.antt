@@ -3,10 +3,10 @@
 -- Assumes nothing.
 use mathlib.Core.Path.{_≡_}
 use mathlib.Core.Logic.{_↔_}
-use Prim.Native.Nat.{ℕ}
+use Prim.Native.Nat.{ℕ, _<_}
 use Rattle.refusal.specs.Answers.{gives, refuses, wordPlace}
 use Rattle.refusal.specs.declared.Place.{Place}
-use Rattle.refusal.proofs.Answers.{value-exactly, never-refused, seven-not-nine}
+use Rattle.refusal.proofs.Answers.{value-exactly, never-refused, above-seven}
 use Rattle.grid.specs.Points.{pointWord, IsPoint, GridFits}
 use Rattle.grid_rules.specs.declared.GridLayout.{GridLayout}
 use Rattle.grid_places.specs.Places.{pointRules, pointPlace}
@@ -24,7 +24,7 @@ point-place l fits r c p =
       λ h. x .1 (y .1 (grid-bounds l .sound (grid-bounded l fits), h .0), h .1),
     )
 
--- the place of a point, by a layout alone, is never refused with 9
-pub point-never : (l : GridLayout) (r c : ℕ) → ¬ (pointPlace l r c ≡ refuses 9 0)
+-- the place of a point, by a layout alone, is never refused with a number above 7
+pub point-never : (n : ℕ) → 7 < n → (l : GridLayout) (r c : ℕ) → ¬ (pointPlace l r c ≡ refuses n 0)
 unfolding pointPlace pointRules
-point-never l r c = never-refused (pointRules l r c) _ 9 0 (seven-not-nine, (seven-not-nine, (seven-not-nine, tt)))
+point-never n h l r c = never-refused (pointRules l r c) _ n 0 (above-seven h, (above-seven h, (above-seven h, tt)))

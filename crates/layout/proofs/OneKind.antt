@@ -7,7 +7,7 @@ use mathlib.Core.List.{List}
 use Prim.Native.Nat.{ℕ}
 use native.Mathlib.Omega.{arith}
 use Rattle.refusal.specs.Answers.{Answer, gives, refuses, andThen}
-use Rattle.refusal.proofs.Answers.{gives-refuses, gives-same, mapped-gives, then-never, then-refused}
+use Rattle.refusal.proofs.Answers.{gives-refuses, gives-same, mapped-gives, then-never, then-refused, seven-only, nine}
 use Rattle.area.specs.Opening.{openArea}
 use Rattle.area.specs.Samples.{AreaOf}
 use Rattle.area.proofs.Facts.{area-of}
@@ -48,12 +48,6 @@ record OneKind {Value : Type 0} (kind : Value → Layout) (own : Layout → Answ
   only : (l : Layout) (v : Value) → own l ≡ gives v → l ≡ kind v
   never : (l : Layout) → ¬ (own l ≡ refuses 9 0)
 
-refuses-number : {Value : Type 0} {n p m q : ℕ} → _≡_ {A = Answer Value} (refuses n p) (refuses m q) → n ≡ m
-refuses-number e = cc
-
-not-nine : {Value : Type 0} → ¬ (_≡_ {A = Answer Value} (refuses 7 0) (refuses 9 0))
-not-nine e = let n : _≡_ {A = ℕ} 7 9 = refuses-number e in omega (arith, n)
-
 area-kind : OneKind Area asArea
 area-kind = record { given = λ v. refl; only = λ l. only l; never = λ l. never l }
   where
@@ -64,8 +58,8 @@ area-kind = record { given = λ v. refl; only = λ l. only l; never = λ l. neve
 
     never : (l : Layout) → ¬ (asArea l ≡ refuses 9 0)
     never (Area l) e = gives-refuses e
-    never (Grid l) e = not-nine e
-    never (Md l) e = not-nine e
+    never (Grid l) e = seven-only nine e
+    never (Md l) e = seven-only nine e
 
 grid-kind : OneKind Grid asGrid
 grid-kind = record { given = λ v. refl; only = λ l. only l; never = λ l. never l }
@@ -76,9 +70,9 @@ grid-kind = record { given = λ v. refl; only = λ l. only l; never = λ l. neve
     only (Md l) v e = gives-refuses (sym e)
 
     never : (l : Layout) → ¬ (asGrid l ≡ refuses 9 0)
-    never (Area l) e = not-nine e
+    never (Area l) e = seven-only nine e
     never (Grid l) e = gives-refuses e
-    never (Md l) e = not-nine e
+    never (Md l) e = seven-only nine e
 
 md-kind : OneKind Md asMd
 md-kind = record { given = λ v. refl; only = λ l. only l; never = λ l. never l }
@@ -89,8 +83,8 @@ md-kind = record { given = λ v. refl; only = λ l. only l; never = λ l. never 
     only (Md l) v e = ap Md (gives-same e)
 
     never : (l : Layout) → ¬ (asMd l ≡ refuses 9 0)
-    never (Area l) e = not-nine e
-    never (Grid l) e = not-nine e
+    never (Area l) e = seven-only nine e
+    never (Grid l) e = seven-only nine e
     never (Md l) e = gives-refuses e
 
 -- what a call of a kind finds
@@ -111,7 +105,7 @@ module _ {Value : Type 0} {kind : Value → Layout} {own : Layout → Answer Val
 
   -- 7 exactly where it is fresh, and of another kind
   other-found : (found own f l ≡ refuses 7 0) ↔ (Fresh f l × (own l ≡ refuses 7 0))
-  other-found = found-only own f l (refuses 7 0) not-nine
+  other-found = found-only own f l (refuses 7 0) (seven-only nine)
 
   -- a call that goes on with the layout, and never refuses 9 by itself, refuses it exactly where the layout is stale
   then-stale : {Other : Type 0} (h : Value → Answer Other) → ((v : Value) → ¬ (h v ≡ refuses 9 0))

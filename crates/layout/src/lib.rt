@@ -16,7 +16,7 @@ ghost use Rattle.refusal.specs.Tests.{Exactly};
 ghost use Rattle.area.specs.Opening.{areaSays, openArea};
 ghost use Rattle.grid_rules.specs.Opening.{gridSays, openGrid};
 ghost use Rattle.md.specs.Opening.{mdSays, openMd};
-ghost use Rattle.layout.specs.Layouts.{openingSays, reopened, givesThat};
+ghost use Rattle.layout.specs.Layouts.{openingSays, orderOf, reopened, givesThat};
 
 // What opening a file finds, of any of the three kinds. "Layout" is document 01's term. A caller can make one up: nothing is known of its fields
 // until it is found to be the one that opening the file gives.
@@ -59,6 +59,17 @@ pub fn open_md(file: &[u8], order: Order) -> Opening
     match md::open(file, order) {
         MdOpening::Opened(layout) => Opening::Opened(Layout::Md(layout)),
         MdOpening::Refused(refusal) => Opening::Refused(refusal),
+    }
+}
+
+// The byte order of a layout.
+pub fn order_of(layout: Layout) -> Order
+    ensures { λ r. ⌜ r ≡ orderOf layout ⌝ }
+{
+    match layout {
+        Layout::Area(l) => l.order,
+        Layout::Grid(l) => l.order,
+        Layout::Md(l) => l.order,
     }
 }
 

@@ -11,7 +11,7 @@ use lib.ListN.{length}
 use borrow.Author.Tests.{eqb-true, eqb-false}
 use Rattle.refusal.specs.Answers.{Answer, gives, refuses}
 use Rattle.refusal.specs.Tests.{Exactly}
-use Rattle.refusal.proofs.Answers.{gives-refuses, gives-same, then-gives}
+use Rattle.refusal.proofs.Answers.{gives-refuses, gives-same, then-gives, seven-only, nine}
 use Rattle.refusal.proofs.Exactness.{numbers-exactly}
 use Rattle.md.specs.Opening.{openMd}
 use Rattle.md.specs.declared.MdLayout.{MdLayout}
@@ -114,13 +114,10 @@ module _ (f : List ℕ) (m : MdLayout) (name : List ℕ) where
   key-never : ¬ (keyIn f m name ≡ refuses 9 0)
   key-never = step key-searched
     where
-      not-nine : ¬ (_≡_ {A = Answer ℕ} (refuses 7 0) (refuses 9 0))
-      not-nine e = let n : _≡_ {A = ℕ} 7 9 = cc in omega (arith, n)
-
       step : Search → ¬ (keyIn f m name ≡ refuses 9 0)
       step (found j x given) e = gives-refuses (sym given ∙ e)
-      step (none four others given) e = not-nine (sym given ∙ e)
-      step (other long given) e = not-nine (sym given ∙ e)
+      step (none four others given) e = seven-only nine (sym given ∙ e)
+      step (other long given) e = seven-only nine (sym given ∙ e)
 
 -- a key of a file: the layout is an MD layout that opening the file gives, and the position is the first that has the name
 pub record KeyOf (f : List ℕ) (l : Layout) (name : List ℕ) (k : ℕ) : Type 0 where

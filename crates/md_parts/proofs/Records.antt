@@ -12,7 +12,7 @@ use lib.Seq.{getD-append-add, ext-getD}
 use Rattle.lists.proofs.Built.{getD-listOf}
 use Rattle.endian.specs.Words.{signedAt}
 use Rattle.refusal.specs.Answers.{Answer, gives, refuses}
-use Rattle.refusal.proofs.Answers.{gives-same, then-gives, value-exactly, never-refused, seven-not-nine}
+use Rattle.refusal.proofs.Answers.{gives-same, then-gives, value-exactly, never-refused, above-seven, nine}
 use Rattle.md.specs.Accepts.{MdFits}
 use Rattle.md.specs.Fields.{fieldsOf, fieldWord}
 use Rattle.md.specs.Opening.{openMd}
@@ -214,4 +214,4 @@ module _ (f : List ℕ) (l : Layout) (r c : ℕ) where
   unfolding recordIn recordRules
   record-stale out =
       copied-nine (recordOf f l r c) out
-      (md-nine f l (λ m. recordIn f m r c) (λ m. never-refused (recordRules m r c) (recordFields f m r c) 9 0 (seven-not-nine, (seven-not-nine, tt))))
+      (md-nine f l (λ m. recordIn f m r c) (λ m. never-refused (recordRules m r c) (recordFields f m r c) 9 0 (above-seven nine, (above-seven nine, tt))))

@@ -3,10 +3,10 @@
 -- Assumes nothing.
 use mathlib.Core.Path.{_≡_, refl}
 use mathlib.Core.Logic.{_↔_}
-use Prim.Native.Nat.{ℕ, _≤_}
+use Prim.Native.Nat.{ℕ, _≤_, _<_}
 use Rattle.refusal.specs.Answers.{gives, refuses, wordPlace}
 use Rattle.refusal.specs.declared.Place.{Place}
-use Rattle.refusal.proofs.Answers.{value-exactly, never-refused, seven-not-nine}
+use Rattle.refusal.proofs.Answers.{value-exactly, never-refused, above-seven}
 use Rattle.md.specs.Accepts.{MdFits}
 use Rattle.md.specs.Fields.{fieldWord, IsField}
 use Rattle.md.specs.declared.MdLayout.{MdLayout}
@@ -32,8 +32,8 @@ module _ (l : MdLayout) (fits : MdFits l) where
         λ h. x .1 (y .1 (md-bounds l .sound (md-bounded l fits), h .0), h .1),
       )
 
--- the place of a field, by a layout alone, is never refused with 9
-pub field-never : (l : MdLayout) (r c f : ℕ) → ¬ (fieldPlace l r c f ≡ refuses 9 0)
+-- the place of a field, by a layout alone, is never refused with a number above 7
+pub field-never : (n : ℕ) → 7 < n → (l : MdLayout) (r c f : ℕ) → ¬ (fieldPlace l r c f ≡ refuses n 0)
 unfolding fieldPlace fieldRules partRules
-field-never l r c f =
-    never-refused (fieldRules l r c f) _ 9 0 (seven-not-nine, (seven-not-nine, (seven-not-nine, (seven-not-nine, tt))))
+field-never n h l r c f =
+    never-refused (fieldRules l r c f) _ n 0 (above-seven h, (above-seven h, (above-seven h, (above-seven h, tt))))

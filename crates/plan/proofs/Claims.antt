@@ -16,11 +16,11 @@ use Rattle.lists.proofs.Parts.{length-part, getD-part}
 use Rattle.lists.proofs.Stores.{sets-inside}
 use Rattle.plan.specs.Plans.{Plan, write, refuse, answer, after, outcome, SucceedsAt, succeedsAt, Covers, Holds}
 use Rattle.plan.specs.Series.{leaves, replies}
-use Rattle.plan.specs.Stores.{OrderOf, All, System, Laws, alone, fileAfter, answers, storesAt, Distinct}
-use Rattle.plan.specs.Claims.{Demand3, LastStands, Request13}
+use Rattle.plan.specs.Stores.{OrderOf, All, System, Laws, alone, stores, fileAfter, answers, storesAt, Distinct}
+use Rattle.plan.specs.Claims.{Demand3, Demand3Runs, LastStands, Request13}
 use Rattle.plan.proofs.Orders.{order-mem, order-keep, order-single, only-member}
 use Rattle.plan.proofs.Plans.{Inside, length-after, address, succeeds-exactly}
-use Rattle.plan.proofs.Series.{leaves-append}
+use Rattle.plan.proofs.Series.{run-is, leaves-append}
 use Rattle.plan.proofs.Runs.{carried, length-carried, carried-other, here, carried-here, mem-here, here-mem, none-here, find}
 
 module _ {Store Answer Opened Value : Type 0} (S : System Store Answer Opened Value) (L : Laws S) where
@@ -192,4 +192,14 @@ module _ {Store Answer Opened Value : Type 0} (S : System Store Answer Opened Va
         others = w .others;
         size = w .size;
         opening = w .opening;
+      }
+
+  -- demand 3 of functions
+  pub runs-free : Demand3Runs S
+  runs-free f l ok apart =
+      let d = order-free f l ok apart in
+      record {
+        free = d;
+        answered = λ o rs h p r. run-is (stores S) r .0 ∙ d .answered o p;
+        left = λ o rs h p r. run-is (stores S) r .1 ∙ d .same o p;
       }

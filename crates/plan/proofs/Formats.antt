@@ -11,10 +11,10 @@ use lib.ListN.{length}
 use Rattle.lists.specs.Choices.{pick}
 use Rattle.plan.specs.Plans.{Plan, write, refuse}
 use Rattle.plan.specs.Stores.{Succeeds, Laws}
-use Rattle.plan.specs.Claims.{Demand3, Request13}
+use Rattle.plan.specs.Claims.{Demand3, Demand3Runs, Request13}
 use Rattle.plan.specs.Formats.{Format, plan, system, Writes, FormatLaws}
 use Rattle.plan.specs.Calls.{CallSystem, CallLaws, Demand3Calls, Request13Calls}
-use Rattle.plan.proofs.Claims.{order-free, last-stands}
+use Rattle.plan.proofs.Claims.{order-free, runs-free, last-stands}
 use Rattle.plan.proofs.Calls.{calls-free, calls-last}
 
 -- two places of one lattice that share a byte are one place
@@ -79,6 +79,10 @@ module _ {Store Key Opened Answer Value : Type 0} (F : Format Store Key Opened A
     -- answers as before (`opening`).
     pub demand3 : Demand3 (system F k)
     demand3 = order-free (system F k) laws
+
+    -- Demand 3 of functions: those that keep their contracts, called one after another, give these answers and leave these bytes.
+    pub demand3-runs : Demand3Runs (system F k)
+    demand3-runs = runs-free (system F k) laws
 
     -- Request 13. Of any file and two lists that hold the same stores, those to the same place in the same order: both leave the same bytes
     -- (`same`), each stored place with its last number (`stored`), and each store gets the same answer (`answered`, `answered′`).

@@ -16,6 +16,12 @@ module _ {Call Answer : Type 0} (does : List ℕ → Call → Answer × List ℕ
       let left : g ≡ does _ c .1 = ap (λ p. p .1) e in
       (ap₂ _∷_ (ap (λ p. p .0) e) (a ∙ ap (λ (x : List ℕ). replies does x l) left), b ∙ ap (λ (x : List ℕ). leaves does x l) left)
 
+  -- and every series of calls has such a run
+  pub run-of : (f : List ℕ) (l : List Call) → Run does f l (replies does f l) (leaves does f l)
+  unfolding leaves replies
+  run-of f [] = done refl
+  run-of f (c ∷ l) = call refl (run-of (does f c .1) l)
+
   -- the file after two lists of calls that are joined
   pub leaves-append : (f : List ℕ) (l m : List Call) → leaves does f (l ++ m) ≡ leaves does (leaves does f l) m
   unfolding leaves

@@ -6,7 +6,8 @@ use mathlib.Core.List.{List, [], _∷_, _++_, map, List·Memᴰ}
 use Prim.Native.Nat.{ℕ}
 use lib.ListN.{length, getD}
 use Rattle.plan.specs.Plans.{SucceedsAt, Covers}
-use Rattle.plan.specs.Stores.{System, OrderOf, All, alone, fileAfter, answers, storesAt, Distinct}
+use Rattle.plan.specs.Series.{Run}
+use Rattle.plan.specs.Stores.{System, OrderOf, All, alone, stores, fileAfter, answers, storesAt, Distinct}
 
 module _ {Store Answer Opened Value : Type 0} (S : System Store Answer Opened Value) where
   -- Demand 3 of one file f and one list l of stores. Each field is a sentence of the demand.
@@ -28,6 +29,17 @@ module _ {Store Answer Opened Value : Type 0} (S : System Store Answer Opened Va
   -- that succeed at the same place".
   abbrev pub Demand3 : Type 0
   Demand3 = (f : List ℕ) (l : List Store) → All (S .Fit) l → Distinct S f l → OrderFree f l
+
+  -- Demand 3 of functions that store, by what their contracts say: called one after another in any order of the list, each with the file
+  -- as the one before left it, they give these answers and leave these bytes.
+  pub record OrderFreeRuns (f : List ℕ) (l : List Store) : Type 0 where
+    pub free : OrderFree f l
+    pub answered : (o : List Store) (rs : List Answer) (h : List ℕ) → OrderOf l o → Run (stores S) f o rs h → rs ≡ map (alone S f) o
+    pub left : (o : List Store) (rs : List Answer) (h : List ℕ) → OrderOf l o → Run (stores S) f o rs h → h ≡ free .bytes
+
+  -- demand 3 of functions: of any file and list as above
+  abbrev pub Demand3Runs : Type 0
+  Demand3Runs = (f : List ℕ) (l : List Store) → All (S .Fit) l → Distinct S f l → OrderFreeRuns f l
 
   -- Request 13 of one file f and two lists l and m of stores.
   pub record LastStands (f : List ℕ) (l m : List Store) : Type 0 where

@@ -3,7 +3,7 @@
 use mathlib.Core.Path.{_≡_, refl, sym, ap, subst, _∙_}
 use mathlib.Core.Logic.{_↔_}
 use mathlib.Core.List.{List, _∷_}
-use Prim.Native.Nat.{ℕ}
+use Prim.Native.Nat.{ℕ, _<_}
 use native.Mathlib.Omega.{arith}
 use Rattle.refusal.specs.Rules.{Rule, firstFault, Every, Hold, Give, FirstFailing}
 use Rattle.refusal.specs.Answers.{Answer, gives, refuses, answered, mapped, andThen, numberSays, wordSays, sizeSays, placeSays}
@@ -78,7 +78,7 @@ mapped-gives h inject (gives w) v = (λ e. ap gives (inject w v (gives-same e)),
 mapped-gives h inject (refuses n p) v = (λ e. gives-refuses (sym e), λ e. gives-refuses (sym e))
 
 -- equal refusals of answers with values of any type
-refuses-alike : {A B : Type 0} {m q n p : ℕ} → _≡_ {A = Answer A} (refuses m q) (refuses n p) → _≡_ {A = Answer B} (refuses m q) (refuses n p)
+pub refuses-alike : {A B : Type 0} {m q n p : ℕ} → _≡_ {A = Answer A} (refuses m q) (refuses n p) → _≡_ {A = Answer B} (refuses m q) (refuses n p)
 refuses-alike {m = m} {q} {n} {p} e =
     let number : m ≡ n = cc in
     let place : q ≡ p = cc in
@@ -143,9 +143,19 @@ module _ {Value : Type 0} (rs : List Rule) (v : Value) where
       every-right (λ r. ¬ (r .number ≡ n)) (x .before) (x .failing ∷ x .after) (subst (Every (λ r. ¬ (r .number ≡ n))) (x .split) other) .0
       (sym (ap (λ (r : Refusal). r .number) (x .gives)))
 
--- 7, there is no such value, is not 9, which is left to layouts that are stale
-pub seven-not-nine : ¬ (_≡_ {A = ℕ} 7 9)
-seven-not-nine e = omega arith
+-- ---- 7, there is no such value, is no number above it: 8 is left to stores, 9 to layouts that are stale
+
+-- of numbers
+pub above-seven : {n : ℕ} → 7 < n → ¬ (_≡_ {A = ℕ} 7 n)
+above-seven h e = omega (arith, h, e)
+
+-- of refusals
+pub seven-only : {Value : Type 0} {n : ℕ} → 7 < n → ¬ (_≡_ {A = Answer Value} (refuses 7 0) (refuses n 0))
+seven-only {n = n} h e = let same : _≡_ {A = ℕ} 7 n = cc in above-seven h same
+
+-- 9 is above 7
+pub nine : _<_ 7 9
+nine = omega arith
 
 -- ---- answers that say exactly whether a value is the one for what was asked
 

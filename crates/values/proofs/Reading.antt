@@ -11,7 +11,7 @@ use Rattle.endian.specs.Numbers.{numberAt}
 use Rattle.endian.specs.Words.{signedAt}
 use Rattle.refusal.specs.Answers.{gives, refuses, mapped, place, wordPlace}
 use Rattle.refusal.specs.declared.Place.{Place}
-use Rattle.refusal.proofs.Answers.{gives-refuses, mapped-made, mapped-refuses}
+use Rattle.refusal.proofs.Answers.{gives-refuses, mapped-made, mapped-refuses, nine}
 use Rattle.area.specs.Opening.{openArea}
 use Rattle.area.specs.Samples.{sampleAddress, IsSample}
 use Rattle.area.specs.declared.AreaLayout.{AreaLayout}
@@ -52,8 +52,11 @@ module _ (f : List ℕ) (l : Layout) (x : What) (p : Place) where
   )
 
   -- its bytes are inside the file, and there are one to four
+  pub place-room : placeIn f l x ≡ gives p → ((1 ≤ p .width) × (p .width ≤ 4)) × (p .address + p .width ≤ length f)
+  place-room e = let at = place-exactly .0 e .1 in (place-width at, place-inside at)
+
   pub read-inside : placeIn f l x ≡ gives p → (p .width ≤ 4) × (p .address + p .width ≤ length f)
-  read-inside e = let at = place-exactly .0 e .1 in (place-width at .1, place-inside at)
+  read-inside e = let room = place-room e in (room .0 .1, room .1)
 
   -- a signed word has four
   pub word-inside : IsWord x → placeIn f l x ≡ gives p → p .address + 4 ≤ length f
@@ -61,7 +64,7 @@ module _ (f : List ℕ) (l : Layout) (x : What) (p : Place) where
 
 -- it is refused with 9 exactly where the layout is stale
 pub place-stale : (f : List ℕ) (l : Layout) (x : What) → (placeIn f l x ≡ refuses 9 0) ↔ (¬ Fresh f l)
-place-stale f l x = stale-exactly (λ m. placeOf m x) f l (place-never l x)
+place-stale f l x = stale-exactly (λ m. placeOf m x) f l (place-never 9 nine l x)
 
 -- a read by any reading of a place gives a value exactly where the named value has a place, and then what is read there
 made-exactly : {Value : Type 0} (read : Place → Value) (f : List ℕ) (l : Layout) (x : What) (v : Value)

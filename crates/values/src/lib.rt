@@ -1,10 +1,10 @@
 // The values of a file: where a named value lies, and the single read of every kind.
 use bands::Channel;
-use endian::Order;
 use endian::read_number;
 use endian::read_signed;
 use layout::Layout;
 use layout::is_fresh;
+use layout::order_of;
 use places::What;
 use places::place_of;
 use refusal::NumberAnswer;
@@ -14,19 +14,7 @@ use refusal::STALE;
 use refusal::WordAnswer;
 ghost use mathlib.Core.Path.{_≡_};
 ghost use Rattle.refusal.specs.Answers.{numberSays, wordSays, placeSays};
-ghost use Rattle.layout.specs.Layouts.{orderOf};
 ghost use Rattle.values.specs.Reading.{placeIn, readSample, IsWord, readWord, readPoint, readField};
-
-// The byte order of a layout.
-fn order_of(layout: Layout) -> Order
-    ensures { λ r. ⌜ r ≡ orderOf layout ⌝ }
-{
-    match layout {
-        Layout::Area(l) => l.order,
-        Layout::Grid(l) => l.order,
-        Layout::Md(l) => l.order,
-    }
-}
 
 // Where a named value lies in a file. Refused with 9 where the layout is stale, then with 7 where it is of another kind than the name, then with 4 at 19 where
 // a band is named and the band map is unusable, then with 7 where there is no such line, element, slot, band, point or field.

@@ -14,16 +14,16 @@ use Rattle.endian.specs.Numbers.{encode}
 use Rattle.endian.specs.declared.Order.{Order}
 use Rattle.refusal.specs.Answers.{Answer, gives, refuses, mapped}
 use Rattle.refusal.specs.declared.Place.{Place}
-use Rattle.plan.specs.Plans.{Plan, write, refuse}
+use Rattle.plan.specs.Plans.{Plan, write, refuse, outcome}
 use Rattle.plan.specs.Formats.{Format, plan, system}
-use Rattle.plan.specs.Claims.{Demand3}
+use Rattle.plan.specs.Claims.{Demand3Runs}
 use Rattle.layout.specs.Layouts.{Kind, openAs, kindOf, orderOf, numberOf, givesThat}
 use Rattle.layout.specs.declared.Layout.{Layout}
 use Rattle.bands.specs.declared.Channel.{Channel}
 use Rattle.places.specs.Places.{placeOf}
 use Rattle.places.specs.declared.What.{What}
 use Rattle.places.specs.declared.What.the-variants.{Sample, Point, Field}
 use Rattle.values.specs.Reading.{readSample, readWord}
 
 -- a number to store, and that a read answers: "0 to 4,294,967,295 for AREA and a signed word otherwise"
 pub data Number : Type 0 where
@@ -110,6 +110,23 @@ stores =
 abbrev pub planOf : List ℕ → Store → Plan Done
 planOf = plan stores
 
--- Demand 3 of the stores of single values, for each kind and byte order: see `Demand3` and `OrderFree`.
+-- what it is answered, and the file that it leaves
+abbrev pub storesIn : List ℕ → Store → Done × List ℕ
+storesIn f s = outcome f (planOf f s)
+
+-- that of a number into a sample
+abbrev pub storeSample : List ℕ → Layout → ℕ → ℕ → Channel → ℕ → Done × List ℕ
+storeSample f l i e c n = storesIn f (record { layout = l; request = sample i e c n })
+
+-- of a signed word into a point of a grid
+abbrev pub storePoint : List ℕ → Layout → ℕ → ℕ → ℤ → Done × List ℕ
+storePoint f l r c v = storesIn f (record { layout = l; request = point r c v })
+
+-- of a signed word into a field of an MD file
+abbrev pub storeField : List ℕ → Layout → ℕ → ℕ → ℕ → ℤ → Done × List ℕ
+storeField f l r c k v = storesIn f (record { layout = l; request = field r c k v })
+
+-- Demand 3 of the stores of single values, for each kind and byte order: see `Demand3`, `OrderFree` and `OrderFreeRuns`. A run is one of functions whose
+-- contracts say `storesIn`.
 abbrev pub OrderDoesNotMatter : Type 0
-OrderDoesNotMatter = (kind : Kind) (order : Order) → Demand3 (system stores (record { kind = kind; order = order }))
+OrderDoesNotMatter = (kind : Kind) (order : Order) → Demand3Runs (system stores (record { kind = kind; order = order }))

@@ -1,8 +1,8 @@
--- `values::order_of` meets its contract: each kind has its order.
+-- `layout::order_of` meets its contract: each kind has its order.
 -- Assumes nothing.
 use borrow.Author.Needs.{needs}
-use Rattle.values.proofs.order_of.Statement.{statement}
-use Rattle.values.proofs.order_of.Tie as tie
+use Rattle.layout.proofs.order_of.Statement.{statement}
+use Rattle.layout.proofs.order_of.Tie as tie
 
 enum-known-layout : tie.Need-enum-known-layout
 enum-known-layout c = search needs

@@ -24,7 +24,7 @@ use Rattle.refusal.specs.Answers.{Answer, gives, refuses, mapped}
 use Rattle.refusal.specs.declared.Place.{Place}
 use Rattle.plan.specs.Plans.{write, Holds}
 use Rattle.plan.specs.Formats.{Writes, FormatLaws}
-use Rattle.plan.proofs.Formats.{pick-write, demand3}
+use Rattle.plan.proofs.Formats.{pick-write, demand3-runs}
 use Rattle.area.specs.Opening.{openArea}
 use Rattle.area.specs.declared.AreaLayout.{AreaLayout}
 use Rattle.area.proofs.Facts.{area-of}
@@ -43,9 +43,9 @@ use Rattle.layout.proofs.Freshness.{that-exactly}
 use Rattle.places.specs.Places.{placeOf}
 use Rattle.places.specs.declared.What.{What}
 use Rattle.places.proofs.Places.{Located, sample-at, point-at, field-at, located, place-inside, base, wide, place-lattice}
 use Rattle.values.specs.Reading.{placeIn, readSample, readWord}
-use Rattle.values.specs.Stores.{unsigned, signed, Request, sample, point, field, Store, whatOf, numberIn, bitsOf, InType, Done, putAt, putIn, within, readBack, stores, OrderDoesNotMatter}
+use Rattle.store_plans.specs.Stores.{unsigned, signed, Request, sample, point, field, Store, whatOf, numberIn, bitsOf, InType, Done, putAt, putIn, within, readBack, stores, OrderDoesNotMatter}
 use Rattle.values.proofs.Reading.{word-width, place-exactly}
 
 -- ---- a store that writes
 
@@ -223,4 +223,4 @@ store-laws =
 
 -- Demand 3: of any file, and any list of stores of single values with layouts of one kind and byte order, no two of which succeed at the same place.
 pub order-does-not-matter : OrderDoesNotMatter
-order-does-not-matter kind order = demand3 stores store-laws (record { kind = kind; order = order })
+order-does-not-matter kind order = demand3-runs stores store-laws (record { kind = kind; order = order })

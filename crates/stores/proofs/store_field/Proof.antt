@@ -1,0 +1,33 @@
+-- `stores::store_field` meets its contract: the plan of a store goes by the place of its value, and its number is the bits of the word.
+-- Assumes nothing.
+use mathlib.Core.Path.{_≡_, sym, ap, _∙_}
+use mir.Syntax.{w32}
+use mir.Val.{toZ, ofZ}
+use denote.Ref.{now}
+use Rattle.places.specs.declared.What.the-variants.{Field}
+use Rattle.store_plans.specs.Stores.{field}
+use Rattle.store_plans.proofs.Single.{store-by-place}
+use Rattle.stores.specs.Answers.{storeAt}
+use borrow.Author.Needs.{needs}
+use Rattle.stores.proofs.store_field.Statement.{statement}
+use Rattle.stores.proofs.store_field.Tie as tie
+
+unsigned-requires : tie.Need-unsigned-requires
+unsigned-requires c κs = search needs
+
+store-requires : tie.Need-store-requires
+store-requires c κs = search needs
+
+same-length : tie.Need-same-length
+same-length c = search needs
+
+returns : tie.Need-returns
+returns c =
+    let a = c .before .before .before .before .before .before .args in
+    let same : toZ w32 (ofZ w32 (a .value)) ≡ a .value = search needs in
+    c .before .before .store .ensures
+    ∙ ap (storeAt (now (a .file)) (a .layout) (Field (a .row) (a .column) (a .position))) (c .before .before .before .unsigned .ensures ∙ ap (ofZ w32) same)
+    ∙ sym (store-by-place (now (a .file)) (a .layout) (field (a .row) (a .column) (a .position) (a .value)))
+
+pub store-field-spec : {M : Type 1} → statement M
+store-field-spec = tie.close (tie.spec unsigned-requires store-requires same-length returns)
