@@ -5,7 +5,6 @@ use mathlib.Core.Path.{_≡_, refl, sym, ap, subst, _∙_}
 use mathlib.Core.Logic.{_↔_}
 use mathlib.Core.List.{List}
 use Prim.Native.Nat.{ℕ}
-use native.Mathlib.Omega.{arith}
 use Rattle.refusal.specs.Answers.{Answer, gives, refuses, andThen}
 use Rattle.refusal.proofs.Answers.{gives-refuses, gives-same, mapped-gives, then-never, then-refused, seven-only, nine}
 use Rattle.area.specs.Opening.{openArea}

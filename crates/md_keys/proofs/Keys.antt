@@ -9,7 +9,7 @@ use native.Mathlib.Omega.{arith}
 use lib.Dec.{eqb}
 use lib.ListN.{length}
 use borrow.Author.Tests.{eqb-true, eqb-false}
-use Rattle.refusal.specs.Answers.{Answer, gives, refuses}
+use Rattle.refusal.specs.Answers.{gives, refuses}
 use Rattle.refusal.specs.Tests.{Exactly}
 use Rattle.refusal.proofs.Answers.{gives-refuses, gives-same, then-gives, seven-only, nine}
 use Rattle.refusal.proofs.Exactness.{numbers-exactly}

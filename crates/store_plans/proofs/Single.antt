@@ -1,75 +1,31 @@
 -- A single store. It goes to the place that the single read names, and is refused as the read is, but for 8, a number above the bytes of its place.
 -- Assumes nothing.
 use mathlib.Core.Path.{_≡_, refl, sym, ap, subst, _∙_}
-use mathlib.Core.Bool.{Bool, true, false}
 use mathlib.Core.Logic.{_↔_}
 use mathlib.Core.List.{List, [], _∷_, List·Memᴰ·head, List·Memᴰ·tail, List·Memᴰ·not-nil, Permᴰ·refl}
 use Prim.Native.Nat.{ℕ, _^_, _≤_, _<_}
 use native.Mathlib.Omega.{arith}
-use lib.Dec.{ltb}
 use lib.Seq.{sets}
-use borrow.Author.Tests.{ltb-true, ltb-false}
-use Rattle.lists.specs.Choices.{pick}
+use mir.Facts.{fits-ofZ}
 use Rattle.endian.specs.Numbers.{encode}
-use Rattle.endian.specs.declared.Order.{Order}
 use Rattle.refusal.specs.Answers.{Answer, gives, refuses}
 use Rattle.refusal.specs.declared.Place.{Place}
 use Rattle.refusal.proofs.Answers.{gives-refuses, gives-same, refuses-alike}
-use Rattle.plan.specs.Plans.{Plan, write, refuse, answer, after, outcome, SucceedsAt}
+use Rattle.plan.specs.Plans.{Plan, answer, after, outcome, SucceedsAt}
 use Rattle.plan.specs.Series.{leaves}
 use Rattle.plan.specs.Stores.{All}
-use Rattle.plan.specs.Formats.{plan, system}
-use Rattle.layout.specs.Layouts.{reopened, givesThat, isFresh, kindOf, orderOf, Fresh}
-use Rattle.layout.specs.Found.{found}
+use Rattle.plan.specs.Formats.{system}
+use Rattle.layout.specs.Layouts.{kindOf, orderOf, Fresh}
 use Rattle.layout.specs.declared.Layout.{Layout}
 use Rattle.layout.proofs.Freshness.{found-only}
 use Rattle.places.specs.Places.{placeOf}
 use Rattle.places.proofs.Places.{Located}
 use Rattle.places.proofs.Refusals.{place-never}
-use Rattle.values.specs.Reading.{placeIn}
-use Rattle.values.proofs.Reading.{place-exactly, place-stale}
-use Rattle.store_plans.specs.Stores.{Store, Request, whatOf, numberIn, bitsOf, InType, Done, putAt, putIn, within, planOf, storesIn, readBack, stores}
+use Rattle.values.specs.Reading.{placeIn, IsWord}
+use Rattle.values.proofs.Reading.{word-width, place-exactly, place-stale}
+use Rattle.store_plans.specs.Stores.{Store, Request, sample, point, field, whatOf, numberIn, bitsOf, InType, Done, putIn, planOf, storesIn, readBack, stores}
+use Rattle.store_plans.proofs.Puts.{Comes, none, large, there, put-there, put-large, plan-by-place, coming}
 use Rattle.store_plans.proofs.Stores.{order-does-not-matter}
-
--- ---- a number that is put at a place
-
-module _ (o : Order) (n : ℕ) (x : Answer Place) where
-  -- what comes of it: there is no place, or the number does not fit its bytes, or they are written
-  data Comes : Plan Done → Type 0 where
-    none : (k q : ℕ) → x ≡ refuses k q → Comes (refuse (refuses k q))
-    large : (p : Place) → x ≡ gives p → 256 ^ p .width ≤ n → Comes (refuse (refuses 8 0))
-    there : (p : Place) → x ≡ gives p → n < 256 ^ p .width → Comes (write (gives tt) (p .address) (encode o (p .width) n))
-
-  comes : Comes (putIn o n x)
-  unfolding putAt
-  comes = step x refl
-    where
-      fits : (p : Place) → x ≡ gives p → (t : Bool) → ltb n (256 ^ p .width) ≡ t
-          → Comes (pick {A = Plan Done} t (write (gives tt) (p .address) (encode o (p .width) n)) (refuse (refuses 8 0)))
-      fits p e true h = there p e (ltb-true n (256 ^ p .width) h)
-      fits p e false h = large p e (ltb-false n (256 ^ p .width) h)
-
-      step : (y : Answer Place) → x ≡ y → Comes (putIn o n y)
-      step (gives p) e = fits p e (ltb n (256 ^ p .width)) refl
-      step (refuses k q) e = none k q e
-
-  -- where it fits the place, it is put there
-  put-there : (p : Place) → x ≡ gives p → n < 256 ^ p .width → answer (putIn o n x) ≡ gives tt
-  put-there p e h = step (putIn o n x) comes
-    where
-      step : (y : Plan Done) → Comes y → answer y ≡ gives tt
-      step _ (none k q w) = gives-refuses (sym e ∙ w)
-      step _ (large r w m) = let same : 256 ^ p .width ≡ 256 ^ r .width = ap (λ (u : Place). 256 ^ u .width) (gives-same (sym e ∙ w)) in absurd (omega (arith, h, m, same))
-      step _ (there r w m) = refl
-
-  -- where it does not, it is refused with 8
-  put-large : (p : Place) → x ≡ gives p → 256 ^ p .width ≤ n → answer (putIn o n x) ≡ refuses 8 0
-  put-large p e h = step (putIn o n x) comes
-    where
-      step : (y : Plan Done) → Comes y → answer y ≡ refuses 8 0
-      step _ (none k q w) = gives-refuses (sym e ∙ w)
-      step _ (large r w m) = refl
-      step _ (there r w m) = let same : 256 ^ p .width ≡ 256 ^ r .width = ap (λ (u : Place). 256 ^ u .width) (gives-same (sym e ∙ w)) in absurd (omega (arith, h, m, same))
 
 -- ---- a store
 
@@ -84,30 +40,16 @@ module _ (f : List ℕ) (l : Layout) (q : Request) where
   abbrev named : Answer Place
   named = placeIn f l (whatOf q)
 
-  -- it is planned by that place
-  pub plan-by-place : planOf f self ≡ putIn (orderOf l) bits named
-  unfolding plan within found isFresh
-  plan-by-place = step (givesThat l (reopened f l)) (placeOf l (whatOf q))
-    where
-      step : (t : Bool) (x : Answer Place)
-          → pick {A = Plan Done} t (putIn (orderOf l) bits x) (refuse (refuses 9 0)) ≡ putIn (orderOf l) bits (pick t x (refuses 9 0))
-      step true x = refl
-      step false x = refl
-
-  -- and so is its outcome
+  -- its outcome goes by that place
   pub store-by-place : storesIn f self ≡ outcome f (putIn (orderOf l) bits named)
-  store-by-place = ap (outcome f) plan-by-place
-
-  -- what comes of a store, as facts
-  coming : Comes (orderOf l) bits named (planOf f self)
-  coming = subst (Comes (orderOf l) bits named) (sym plan-by-place) (comes (orderOf l) bits named)
+  store-by-place = ap (outcome f) (plan-by-place f l q)
 
   -- It succeeds exactly where the layout is fresh, there is such a value, and the number fits its bytes.
   pub done-exactly : (storesIn f self .0 ≡ gives tt) ↔ ((p : Place) × (Fresh f l × Located f l (whatOf q) p) × (bits < 256 ^ p .width))
   unfolding outcome
   done-exactly = (
-    step (planOf f self) coming,
-    λ h. ap answer plan-by-place ∙ put-there (orderOf l) bits named (h .0) (place-exactly f l (whatOf q) (h .0) .1 (h .1)) (h .2),
+    step (planOf f self) (coming f l q),
+    λ h. ap answer (plan-by-place f l q) ∙ put-there (orderOf l) bits named (h .0) (place-exactly f l (whatOf q) (h .0) .1 (h .1)) (h .2),
   )
     where
       step : (y : Plan Done) → Comes (orderOf l) bits named y → answer y ≡ gives tt
@@ -116,12 +58,21 @@ module _ (f : List ℕ) (l : Layout) (q : Request) where
       step _ (large p w h) e = gives-refuses (sym e)
       step _ (there p w h) e = (p, place-exactly f l (whatOf q) p .0 w, h)
 
+  -- Where it succeeds at an address, that is the paper's address of its value.
+  pub done-at : (a : ℕ) → SucceedsAt a (planOf f self) → (p : Place) × (Fresh f l × Located f l (whatOf q) p) × (p .address ≡ a)
+  done-at a = step (planOf f self) (coming f l q)
+    where
+      step : (y : Plan Done) → Comes (orderOf l) bits named y → SucceedsAt a y → (p : Place) × (Fresh f l × Located f l (whatOf q) p) × (p .address ≡ a)
+      step _ (none k p w) h = absurd h
+      step _ (large p w m) h = absurd h
+      step _ (there p w m) h = (p, place-exactly f l (whatOf q) p .0 w, h)
+
   -- It is refused with 8 exactly where the layout is fresh and there is such a value, but the number does not fit its bytes.
   pub large-exactly : (storesIn f self .0 ≡ refuses 8 0) ↔ ((p : Place) × (Fresh f l × Located f l (whatOf q) p) × (256 ^ p .width ≤ bits))
   unfolding outcome
   large-exactly = (
-    step (planOf f self) coming,
-    λ h. ap answer plan-by-place ∙ put-large (orderOf l) bits named (h .0) (place-exactly f l (whatOf q) (h .0) .1 (h .1)) (h .2),
+    step (planOf f self) (coming f l q),
+    λ h. ap answer (plan-by-place f l q) ∙ put-large (orderOf l) bits named (h .0) (place-exactly f l (whatOf q) (h .0) .1 (h .1)) (h .2),
   )
     where
       eight-not-nine : ¬ (_≡_ {A = Answer Place} (refuses 8 0) (refuses 9 0))
@@ -139,7 +90,7 @@ module _ (f : List ℕ) (l : Layout) (q : Request) where
   -- It is refused with any other number exactly where the place is, which is where the single read is.
   pub refused-exactly : (n p : ℕ) → ¬ (n ≡ 8) → (storesIn f self .0 ≡ refuses n p) ↔ (named ≡ refuses n p)
   unfolding outcome
-  refused-exactly n p other = (step (planOf f self) coming, λ e. ap answer plan-by-place ∙ ap (λ (x : Answer Place). answer (putIn (orderOf l) bits x)) e)
+  refused-exactly n p other = (step (planOf f self) (coming f l q), λ e. ap answer (plan-by-place f l q) ∙ ap (λ (x : Answer Place). answer (putIn (orderOf l) bits x)) e)
     where
       step : (y : Plan Done) → Comes (orderOf l) bits named y → answer y ≡ refuses n p → named ≡ refuses n p
       step _ (none k u w) e = w ∙ refuses-alike e
@@ -156,7 +107,7 @@ module _ (f : List ℕ) (l : Layout) (q : Request) where
   -- A refusal leaves the file as it was.
   pub refused-unchanged : (n p : ℕ) → storesIn f self .0 ≡ refuses n p → storesIn f self .1 ≡ f
   unfolding outcome
-  refused-unchanged n p = step (planOf f self) coming
+  refused-unchanged n p = step (planOf f self) (coming f l q)
     where
       step : (y : Plan Done) → Comes (orderOf l) bits named y → answer y ≡ refuses n p → after f y ≡ f
       step _ (none k u w) e = refl
@@ -167,7 +118,7 @@ module _ (f : List ℕ) (l : Layout) (q : Request) where
   pub done-written : (p : Place) → named ≡ gives p → storesIn f self .0 ≡ gives tt
       → storesIn f self .1 ≡ sets f (p .address) (encode (orderOf l) (p .width) bits)
   unfolding outcome
-  done-written p at = step (planOf f self) coming
+  done-written p at = step (planOf f self) (coming f l q)
     where
       step : (y : Plan Done) → Comes (orderOf l) bits named y → answer y ≡ gives tt
           → after f y ≡ sets f (p .address) (encode (orderOf l) (p .width) bits)
@@ -179,15 +130,26 @@ module _ (f : List ℕ) (l : Layout) (q : Request) where
   pub reads-back : InType (numberIn q) → storesIn f self .0 ≡ gives tt → readBack (storesIn f self .1) l q ≡ gives (numberIn q)
   unfolding outcome leaves
   reads-back typed e =
-      let d = order-does-not-matter (kindOf l) (orderOf l) f (self ∷ []) fit ((λ t m. absurd (List·Memᴰ·not-nil m)), tt) .free in
-      let (a, at) = step (planOf f self) coming e in
+      let d = order-does-not-matter .claim (kindOf l) (orderOf l) f (self ∷ []) fit ((λ t m. absurd (List·Memᴰ·not-nil m)), tt) .free in
+      let (a, at) = order-does-not-matter .succeeds f self .1 e in
       ap (λ (g : List ℕ). readBack g l q) (d .same (self ∷ []) (Permᴰ·refl (self ∷ []))) ∙ d .stored self (List·Memᴰ·head refl) a at
     where
       fit : All (system stores (record { kind = kindOf l; order = orderOf l }) .Fit) (self ∷ [])
       fit s (List·Memᴰ·head same) = subst (system stores (record { kind = kindOf l; order = orderOf l }) .Fit) (sym same) (refl, typed)
       fit s (List·Memᴰ·tail m) = absurd (List·Memᴰ·not-nil m)
 
-      step : (y : Plan Done) → Comes (orderOf l) bits named y → answer y ≡ gives tt → (a : ℕ) × SucceedsAt a y
-      step _ (none k u w) e = gives-refuses (sym e)
-      step _ (large r w h) e = gives-refuses (sym e)
-      step _ (there r w h) e = (r .address, refl)
+-- ---- stores of signed words
+
+-- the bits of a signed word fit four bytes
+word-fits : (f : List ℕ) (l : Layout) (q : Request) (p : Place) → Located f l (whatOf q) p → IsWord (whatOf q) → InType (numberIn q)
+    → bitsOf (numberIn q) < 256 ^ p .width
+word-fits f l (sample i e c n) p at is typed = absurd is
+word-fits f l (point r c v) p at is typed = rw (word-width at is) (fits-ofZ typed .fits)
+word-fits f l (field r c k v) p at is typed = rw (word-width at is) (fits-ofZ typed .fits)
+
+-- The store of a point or a field succeeds exactly where there is such a value: it is never refused with 8.
+pub word-done : (f : List ℕ) (l : Layout) (q : Request) → IsWord (whatOf q) → InType (numberIn q)
+    → (storesIn f (record { layout = l; request = q }) .0 ≡ gives tt) ↔ ((p : Place) × Fresh f l × Located f l (whatOf q) p)
+word-done f l q is typed =
+    let x = done-exactly f l q in
+    (λ e. let (p, at, fits) = x .0 e in (p, at .0, at .1), λ h. x .1 (h .0, (h .1, h .2), word-fits f l q (h .0) (h .2) is typed))

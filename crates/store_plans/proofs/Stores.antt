@@ -2,7 +2,7 @@
 -- writes at the place that the single read names; opening reads none of these bytes; places are on one lattice.
 -- Assumes nothing.
 use mathlib.Core.Path.{_≡_, refl, sym, ap, ap₂, _∙_}
-use mathlib.Core.Logic.{inl}
+use mathlib.Core.Logic.{_↔_, inl}
 use mathlib.Core.List.{List}
 use Prim.Native.Nat.{ℕ, _+_, _*_, _^_, _≤_, _<_}
 use native.Mathlib.Omega.{arith}
@@ -12,7 +12,6 @@ use lib.Seq.{sets, length-sets}
 use mir.Syntax.{w32}
 use mir.Val.{toZ, ofZ, SFits}
 use mir.Facts.{toZ-ofZ}
-use borrow.Author.Tests.{ltb-true}
 use Rattle.lists.specs.Lists.{part}
 use Rattle.lists.proofs.Stores.{sets-outside}
 use Rattle.endian.specs.Numbers.{encode, numberAt}
@@ -22,9 +21,10 @@ use Rattle.endian.proofs.Numbers.{length-encode}
 use Rattle.endian.proofs.Places.{number-held, number-frame, word-number, words-apart}
 use Rattle.refusal.specs.Answers.{Answer, gives, refuses, mapped}
 use Rattle.refusal.specs.declared.Place.{Place}
-use Rattle.plan.specs.Plans.{write, Holds}
+use Rattle.refusal.proofs.Answers.{gives-refuses}
+use Rattle.plan.specs.Plans.{Plan, write, refuse, answer, outcome, SucceedsAt, Holds}
 use Rattle.plan.specs.Formats.{Writes, FormatLaws}
-use Rattle.plan.proofs.Formats.{pick-write, demand3-runs}
+use Rattle.plan.proofs.Formats.{demand3-runs}
 use Rattle.area.specs.Opening.{openArea}
 use Rattle.area.specs.declared.AreaLayout.{AreaLayout}
 use Rattle.area.proofs.Facts.{area-of}
@@ -44,7 +44,8 @@ use Rattle.places.specs.Places.{placeOf}
 use Rattle.places.specs.declared.What.{What}
 use Rattle.places.proofs.Places.{Located, sample-at, point-at, field-at, located, place-inside, base, wide, place-lattice}
 use Rattle.values.specs.Reading.{placeIn, readSample, readWord}
-use Rattle.store_plans.specs.Stores.{unsigned, signed, Request, sample, point, field, Store, whatOf, numberIn, bitsOf, InType, Done, putAt, putIn, within, readBack, stores, OrderDoesNotMatter}
+use Rattle.store_plans.specs.Stores.{unsigned, signed, Request, sample, point, field, Store, whatOf, numberIn, bitsOf, InType, Done, putIn, within, readBack, stores, planOf, storesIn, OrderDoesNotMatter}
+use Rattle.store_plans.proofs.Puts.{Comes, none, large, there, comes, coming}
 use Rattle.values.proofs.Reading.{word-width, place-exactly}
 
 -- ---- a store that writes
@@ -61,13 +62,19 @@ record Put (o : Order) (n : ℕ) (x : Answer Place) (a : ℕ) (b : List ℕ) : T
 write-same : {r q : Done} {a c : ℕ} {b d : List ℕ} → write r a b ≡ write q c d → (a ≡ c) × (b ≡ d)
 write-same e = (cc, cc)
 
+-- a plan that refuses writes nothing
+refuse-write : {A : Type 0} {r q : Done} {a : ℕ} {b : List ℕ} → refuse r ≡ write q a b → A
+refuse-write e = let z : _≡_ {A = ℕ} 0 1 = cc in let y : ⊥ = omega arith in absurd y
+
 put : (o : Order) (n : ℕ) (x : Answer Place) (r : Done) (a : ℕ) (b : List ℕ) → putIn o n x ≡ write r a b → Put o n x a b
-unfolding putAt
-put o n (refuses k q) r a b e = let z : _≡_ {A = ℕ} 0 1 = cc in let y : ⊥ = omega arith in absurd y
-put o n (gives p) r a b e =
-    let (fits, same) = pick-write _ _ _ r a b e in
-    let (address, bytes) = write-same same in
-    record { place = p; given = refl; address = sym address; bytes = sym bytes; small = ltb-true n (256 ^ p .width) fits }
+put o n x r a b = step (putIn o n x) (comes o n x)
+  where
+    step : (y : Plan Done) → Comes o n x y → y ≡ write r a b → Put o n x a b
+    step _ (none k q w) e = refuse-write e
+    step _ (large p w h) e = refuse-write e
+    step _ (there p w h) e =
+        let (address, bytes) = write-same e in
+        record { place = p; given = w; address = sym address; bytes = sym bytes; small = h }
 
 -- the layout, the name and the number of a store
 abbrev orderIn : Store → Order
@@ -221,6 +228,28 @@ store-laws =
       reads = λ {f} {s} w h. reads f (s .layout) (s .request) (w .typed) (stored w) h;
     }
 
+-- a store succeeds exactly where it is answered that it is done
+succeeds : (f : List ℕ) (s : Store) → ((a : ℕ) × SucceedsAt a (planOf f s)) ↔ (storesIn f s .0 ≡ gives tt)
+unfolding outcome
+succeeds f s = (λ h. to (planOf f s) comes-of (h .0) (h .1), from (planOf f s) comes-of)
+  where
+    comes-of : Comes (orderIn s) (bitsIn s) (placeIn f (s .layout) (whatOf (s .request))) (planOf f s)
+    comes-of = coming f (s .layout) (s .request)
+
+    to : (y : Plan Done) → Comes (orderIn s) (bitsIn s) (placeIn f (s .layout) (whatOf (s .request))) y → (a : ℕ) → SucceedsAt a y → answer y ≡ gives tt
+    to _ (none k q w) a h = absurd h
+    to _ (large p w m) a h = absurd h
+    to _ (there p w m) a h = refl
+
+    from : (y : Plan Done) → Comes (orderIn s) (bitsIn s) (placeIn f (s .layout) (whatOf (s .request))) y → answer y ≡ gives tt → (a : ℕ) × SucceedsAt a y
+    from _ (none k q w) e = gives-refuses (sym e)
+    from _ (large p w m) e = gives-refuses (sym e)
+    from _ (there p w m) e = (p .address, refl)
+
 -- Demand 3: of any file, and any list of stores of single values with layouts of one kind and byte order, no two of which succeed at the same place.
 pub order-does-not-matter : OrderDoesNotMatter
-order-does-not-matter kind order = demand3-runs stores store-laws (record { kind = kind; order = order })
+order-does-not-matter =
+    record {
+      claim = λ kind order. demand3-runs stores store-laws (record { kind = kind; order = order });
+      succeeds = succeeds;
+    }

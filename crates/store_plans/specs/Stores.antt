@@ -3,6 +3,8 @@
 --
 -- Demand 3 is stated of these stores.
 -- Assumes nothing.
+use mathlib.Core.Path.{_≡_}
+use mathlib.Core.Logic.{_↔_}
 use mathlib.Core.List.{List}
 use Prim.Native.Nat.{ℕ, _^_, _<_}
 use lib.Dec.{ltb}
@@ -14,7 +16,7 @@ use Rattle.endian.specs.Numbers.{encode}
 use Rattle.endian.specs.declared.Order.{Order}
 use Rattle.refusal.specs.Answers.{Answer, gives, refuses, mapped}
 use Rattle.refusal.specs.declared.Place.{Place}
-use Rattle.plan.specs.Plans.{Plan, write, refuse, outcome}
+use Rattle.plan.specs.Plans.{Plan, write, refuse, outcome, SucceedsAt}
 use Rattle.plan.specs.Formats.{Format, plan, system}
 use Rattle.plan.specs.Claims.{Demand3Runs}
 use Rattle.layout.specs.Layouts.{Kind, openAs, kindOf, orderOf, numberOf, givesThat}
@@ -126,7 +128,9 @@ storePoint f l r c v = storesIn f (record { layout = l; request = point r c v })
 abbrev pub storeField : List ℕ → Layout → ℕ → ℕ → ℕ → ℤ → Done × List ℕ
 storeField f l r c k v = storesIn f (record { layout = l; request = field r c k v })
 
--- Demand 3 of the stores of single values, for each kind and byte order: see `Demand3`, `OrderFree` and `OrderFreeRuns`. A run is one of functions whose
--- contracts say `storesIn`.
-abbrev pub OrderDoesNotMatter : Type 0
-OrderDoesNotMatter = (kind : Kind) (order : Order) → Demand3Runs (system stores (record { kind = kind; order = order }))
+-- Demand 3 of the stores of single values: see `Demand3`, `OrderFree` and `OrderFreeRuns`. A run is one of functions whose contracts say `storesIn`.
+pub record OrderDoesNotMatter : Type 0 where
+  -- the claim, for "one kind, one byte order"
+  pub claim : (kind : Kind) (order : Order) → Demand3Runs (system stores (record { kind = kind; order = order }))
+  -- the stores that succeed, as the claim has it, are those that are answered that they are done: "succeeds, that is, isn't refused"
+  pub succeeds : (f : List ℕ) (s : Store) → ((a : ℕ) × SucceedsAt a (planOf f s)) ↔ (storesIn f s .0 ≡ gives tt)

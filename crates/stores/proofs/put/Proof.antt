@@ -1,7 +1,6 @@
 -- `stores::put` meets its contract: a number that fits is written at the place, and any other is refused with 8.
 -- Assumes nothing.
-use mathlib.Core.Path.{_≡_, sym, ap, _∙_}
-use native.Mathlib.Omega.{arith}
+use mathlib.Core.Path.{ap}
 use Rattle.plan.specs.Plans.{outcome}
 use Rattle.refusal.specs.Answers.{gives}
 use Rattle.store_plans.specs.Stores.{putAt}

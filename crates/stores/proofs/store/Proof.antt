@@ -1,12 +1,11 @@
 -- `stores::store` meets its contract: the number is put at the place, and a refusal is passed on.
 -- Assumes nothing.
-use mathlib.Core.Path.{_≡_, sym, ap, _∙_}
-use native.Mathlib.Omega.{arith}
+use mathlib.Core.Path.{sym, ap, _∙_}
 use denote.Ref.{now}
 use Rattle.refusal.specs.Answers.{placeSays}
 use Rattle.plan.specs.Plans.{outcome}
 use Rattle.values.proofs.Reading.{place-room}
-use Rattle.store_plans.specs.Stores.{putAt, putIn}
+use Rattle.store_plans.specs.Stores.{putAt}
 use borrow.Author.Needs.{needs}
 use Rattle.stores.proofs.store.Statement.{statement}
 use Rattle.stores.proofs.store.Tie as tie
