@@ -13,8 +13,8 @@ Inv-loop subject line file₀ pairs i₀ file i = length file ≡ length file₀
 abbrev μ-loop : tie.MeasureT-loop
 μ-loop subject line file₀ pairs i₀ file i = pairs - i
 
-numbers-of-requires : tie.Need-numbers-of-requires Inv-loop μ-loop
-numbers-of-requires c κs = search needs
+count-in-requires : tie.Need-count-in-requires Inv-loop μ-loop
+count-in-requires c κs = search needs
 
 loop-holds : tie.Need-loop-holds Inv-loop μ-loop
 loop-holds c = search needs
@@ -58,7 +58,7 @@ set-words-spec =
     (tie.spec
     Inv-loop
     μ-loop
-    numbers-of-requires
+    count-in-requires
     loop-holds
     mul-number-in
     number-in-requires

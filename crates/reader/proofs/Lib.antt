@@ -1,0 +1,4 @@
+pub mod Calls
+pub mod Known
+pub mod Locals
+pub mod Making
