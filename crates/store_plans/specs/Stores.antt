@@ -32,7 +32,7 @@ pub data Number : Type 0 where
   unsigned : ℕ → Number
   signed : ℤ → Number
 
--- the three calls that store one value, with what each is asked
+-- the three calls that store one value, with what each is asked: line, element, channel and number; row, column and value; row, column, position and value
 pub data Request : Type 0 where
   sample : ℕ → ℕ → Channel → ℕ → Request
   point : ℕ → ℕ → ℤ → Request
@@ -73,11 +73,12 @@ Done = Answer (Unit {0})
 unfoldable pub putAt : Order → ℕ → Place → Plan Done
 putAt o n p = pick (ltb n (256 ^ p .width)) (write (gives tt) (p .address) (encode o (p .width) n)) (refuse (refuses 8 0))
 
--- a store with a fresh layout, by its place
+-- at the place that an answer gives, or refused as the answer is
 abbrev pub putIn : Order → ℕ → Answer Place → Plan Done
 putIn o n (gives p) = putAt o n p
 putIn o n (refuses k q) = refuse (refuses k q)
 
+-- what a store with a fresh layout does
 unfoldable pub within : Store → Plan Done
 within s = putIn (orderOf (s .layout)) (bitsOf (numberIn (s .request))) (placeOf (s .layout) (whatOf (s .request)))
 
