@@ -14,7 +14,6 @@
 // Any other line is written as it is.
 use bands::Channel;
 use endian::Order;
-use endian::read_number;
 use endian::read_signed;
 use endian::write_number;
 use layout::Layout;
@@ -26,7 +25,6 @@ use libc::STDIN_FILENO;
 use libc::STDOUT_FILENO;
 use md::MdLayout;
 use refusal::Refusal;
-use script_text::count_in;
 use script_text::line_end;
 use script_text::name_in;
 use script_text::number_in;
@@ -35,16 +33,17 @@ use stores::store_field;
 use stores::store_point;
 use stores::store_sample;
 use worked_calls::ask;
+use worked_files::AREA;
+use worked_files::DIFFERENCES;
+use worked_files::KEEP;
+use worked_files::WORDS;
+use worked_files::change;
+use worked_files::compare;
+use worked_files::set_word;
 ghost use Prim.Native.Nat.{_≤_};
 
-// The number of `area`, the first word that is no call of `worked_calls`. `grid` has the next.
-const AREA: u32 = 22;
-
-// That of `md`.
+// The number of `md`. `area` and `grid` have those before, and `words` the next; see `worked_files`.
 const MD: u32 = 24;
-
-// That of `words`.
-const WORDS: u32 = 25;
 
 // That of `open`.
 const OPEN: u32 = 26;
@@ -61,31 +60,26 @@ const STORE_BAND: u32 = 29;
 // That of `store-point`.
 const STORE_POINT: u32 = 30;
 
-// That of `store-field`.
+// That of `store-field`. `keep`, `restore` and `differences` have the next, and are the last.
 const STORE_FIELD: u32 = 31;
 
-// That of `keep`.
-const KEEP: u32 = 32;
-
-// That of `restore`.
-const RESTORE: u32 = 33;
-
-// That of `differences`, the last.
-const DIFFERENCES: u32 = 34;
-
-// The file that a script is at: the number of the word that made it, its byte order, its length, and the number of the grid; and the length of the copy that is kept.
+// The file that a script is at: the number of the word that made it, its byte order, its length, the number of the grid, and the layout that is kept; and how long the
+// copy is that is kept.
 struct Subject {
     kind: u32,
     order: Order,
     length: usize,
     number: u32,
+    layout: Layout,
     copied: usize,
 }
 
-// What is known between lines: the file, and the layout that is kept.
-struct Known {
-    subject: Subject,
-    layout: Layout,
+// The first four numbers of a line.
+struct Numbers {
+    a: u32,
+    b: u32,
+    c: u32,
+    d: u32,
 }
 
 // Writes text.
@@ -118,49 +112,9 @@ fn say_store(answer: StoreAnswer) {
     }
 }
 
-// Sets word k, where the file has it, and answers what it held, or 0.
-fn set_word(subject: Subject, k: u32, n: u32, file: &mut [u8]) -> u32 {
-    let order = subject.order;
-    let first = if subject.kind == AREA { 1 } else { 0 };
-    if first <= k {
-        let i = (k - first) as usize;
-        if i < file.len() / 4 {
-            let old = read_number(order, 4, file, 4 * i);
-            write_number(order, 4, file, 4 * i, n);
-            return old;
-        }
-    }
-    0
-}
-
-// Sets the words of a line.
-fn set_words(subject: Subject, line: &[u8], file: &mut [u8]) {
-    let pairs = count_in(line) / 2;
-    let mut i = 0;
-    while i < pairs {
-        let k = number_in(line, 2 * i);
-        let n = number_in(line, 2 * i + 1);
-        set_word(subject, k, n, file);
-        i += 1;
-    }
-}
-
-// Fills an AREA file.
-fn fill_bytes(file: &mut [u8]) {
-    let mut i = 0;
-    while i < file.len() {
-        file[i] = if i < 256 { 0 } else { (i % 256) as u8 };
-        i += 1;
-    }
-}
-
-// Fills a file of another kind.
-fn fill_words(subject: Subject, file: &mut [u8]) {
-    let mut k: u32 = 0;
-    while k < 4121 {
-        set_word(subject, k, k, file);
-        k += 1;
-    }
+// The number of the first word of a file of a kind.
+fn first_word(kind: u32) -> u32 {
+    if kind == AREA { 1 } else { 0 }
 }
 
 // Opens the file.
@@ -175,38 +129,51 @@ fn open(subject: Subject, file: &[u8]) -> Opening {
     open_grid(file, order, subject.number)
 }
 
-// Opens the file. Answers its layout, or the one that was kept.
-fn opened(subject: Subject, kept: Layout, file: &[u8]) -> Layout {
+// A subject with another layout.
+fn with_layout(subject: Subject, layout: Layout) -> Subject {
+    let order = subject.order;
+    Subject {
+        kind: subject.kind,
+        order: order,
+        length: subject.length,
+        number: subject.number,
+        layout: layout,
+        copied: subject.copied,
+    }
+}
+
+// Opens the file. The layout that is kept is the one that this gives, or the one before.
+fn opened(subject: Subject, file: &[u8]) -> Subject {
     let opening = open(subject, file);
     say_opening(opening);
     match opening {
-        Opening::Opened(layout) => layout,
-        Opening::Refused(_) => kept,
+        Opening::Opened(layout) => with_layout(subject, layout),
+        Opening::Refused(_) => subject,
     }
 }
 
-// Opens the file with word k as n.
-fn tried(subject: Subject, k: u32, n: u32, file: &mut [u8]) {
-    let old = set_word(subject, k, n, file);
+// Opens the file with word a as b, and sets the word back.
+fn tried(subject: Subject, n: Numbers, file: &mut [u8]) {
+    let order = subject.order;
+    let first = first_word(subject.kind);
+    let old = set_word(order, first, n.a, n.b, file);
     say_opening(open(subject, file));
-    set_word(subject, k, old, file);
+    set_word(order, first, n.a, old, file);
 }
 
-// Does what a line that makes a file, or sets its words, says.
-fn change(subject: Subject, call: u32, line: &[u8], file: &mut [u8]) {
-    match call {
-        AREA => fill_bytes(file),
-        WORDS => set_words(subject, line, file),
-        _ => fill_words(subject, file),
+// The first four numbers of a line.
+fn numbers_of(line: &[u8]) -> Numbers {
+    Numbers {
+        a: number_in(line, 0),
+        b: number_in(line, 1),
+        c: number_in(line, 2),
+        d: number_in(line, 3),
     }
 }
 
-// Asks what a line says, or writes nothing.
-fn asked(layout: Layout, call: u32, line: &[u8], file: &[u8]) {
-    let a = number_in(line, 0);
-    let b = number_in(line, 1);
-    let c = number_in(line, 2);
-    if !ask(file, layout, call, a, b, c) {
+// Asks a call with three numbers, or writes nothing.
+fn asked(layout: Layout, call: u32, n: Numbers, file: &[u8]) {
+    if !ask(file, layout, call, n.a, n.b, n.c) {
         print(b"\n");
     }
 }
@@ -218,152 +185,90 @@ fn signed(n: u32) -> i32 {
     read_signed(Order::Big, &bytes, 0)
 }
 
-// Stores what a line says.
-fn stored(layout: Layout, call: u32, line: &[u8], file: &mut [u8]) -> StoreAnswer {
-    let a = number_in(line, 0);
-    let b = number_in(line, 1);
-    let c = number_in(line, 2);
-    let d = number_in(line, 3);
+// Stores the last of three or four numbers, at the place that the others say.
+fn stored(layout: Layout, call: u32, n: Numbers, file: &mut [u8]) -> StoreAnswer {
     match call {
-        STORE_SAMPLE => store_sample(file, layout, a, b, Channel::Slot(c), d),
-        STORE_BAND => store_sample(file, layout, a, b, Channel::Band(c), d),
-        STORE_POINT => store_point(file, layout, a, b, signed(c)),
-        _ => store_field(file, layout, a, b, c, signed(d)),
+        STORE_SAMPLE => store_sample(file, layout, n.a, n.b, Channel::Slot(n.c), n.d),
+        STORE_BAND => store_sample(file, layout, n.a, n.b, Channel::Band(n.c), n.d),
+        STORE_POINT => store_point(file, layout, n.a, n.b, signed(n.c)),
+        _ => store_field(file, layout, n.a, n.b, n.c, signed(n.d)),
     }
 }
 
-// Copies as many bytes as both have.
-fn copy_bytes(from: &[u8], to: &mut [u8]) {
-    let mut i = 0;
-    while i < from.len() {
-        if to.len() <= i {
-            return;
-        }
-        to[i] = from[i];
-        i += 1;
-    }
-}
-
-// Writes a byte of the file where it differs from that of the copy. Answers whether it does.
-fn say_difference(index: usize, byte: u8, copied: u8) -> bool {
-    if byte == copied {
-        return false;
-    }
-    print(b" ");
-    io::print_decimal(STDOUT_FILENO, index as u64);
-    print(b"=");
-    io::print_decimal(STDOUT_FILENO, byte as u64);
-    true
-}
-
-// Goes on with each byte of the file that differs from that of the copy. Answers whether one does.
-fn say_differences(file: &[u8], copy: &[u8]) -> bool {
-    let mut found = false;
-    let mut i = 0;
-    while i < file.len() {
-        if copy.len() <= i {
-            return found;
-        }
-        if say_difference(i, file[i], copy[i]) {
-            found = true;
-        }
-        i += 1;
-    }
-    found
-}
-
-// Puts the bytes of the copy, so many of them, back into the file.
-fn put_back(copy: &[u8], end: usize, file: &mut [u8]) {
-    if end <= copy.len() {
-        copy_bytes(&copy[0..end], file);
-    }
-}
-
-// Goes on with what differs between the file and the copy, of which so many bytes are kept.
-fn say_compared(file: &[u8], copy: &[u8], end: usize) {
-    print(b":");
-    if end <= copy.len() {
-        if say_differences(file, &copy[0..end]) {
-            return;
-        }
-    }
-    print(b" none");
-}
-
-// Does what a line says of the copy that is kept.
-fn compare(subject: Subject, call: u32, file: &mut [u8], copy: &mut [u8]) {
+// Does what a line with four numbers says to a file.
+fn act(subject: Subject, call: u32, n: Numbers, file: &mut [u8]) {
+    let layout = subject.layout;
     match call {
-        KEEP => copy_bytes(file, copy),
-        RESTORE => put_back(copy, subject.copied, file),
-        _ => say_compared(file, copy, subject.copied),
+        WITH => tried(subject, n, file),
+        STORE_SAMPLE..=STORE_FIELD => say_store(stored(layout, call, n, file)),
+        _ => asked(layout, call, n, file),
     }
 }
 
-// Does what a line says to a file. Answers the layout that is kept.
-fn acted(
-    subject: Subject,
-    kept: Layout,
-    call: u32,
-    line: &[u8],
-    file: &mut [u8],
-    copy: &mut [u8],
-) -> Layout {
+// Does what a line says to a file. Answers the subject after it.
+fn acted(subject: Subject, call: u32, line: &[u8], file: &mut [u8]) -> Subject {
+    let order = subject.order;
     if call == OPEN {
-        return opened(subject, kept, file);
-    }
-    if call == WITH {
-        tried(subject, number_in(line, 0), number_in(line, 1), file);
-        return kept;
+        return opened(subject, file);
     }
     if AREA <= call {
         if call <= WORDS {
-            change(subject, call, line, file);
+            change(order, first_word(subject.kind), call, line, file);
             print(b"\n");
-            return kept;
+            return subject;
         }
     }
-    if STORE_SAMPLE <= call {
-        if call <= STORE_FIELD {
-            say_store(stored(kept, call, line, file));
-            return kept;
-        }
-    }
-    if KEEP <= call {
-        if call <= DIFFERENCES {
-            compare(subject, call, file, copy);
-            print(b"\n");
-            return kept;
-        }
-    }
-    asked(kept, call, line, file);
-    kept
+    act(subject, call, numbers_of(line), file);
+    subject
 }
 
-// The subject after a line, which may make another file, or keep a copy.
-fn making(subject: Subject, call: u32, line: &[u8]) -> Subject {
-    if AREA <= call {
-        if call <= MD {
-            let order = subject.order;
-            return Subject {
-                kind: call,
-                order: order,
-                length: number_in(line, 0) as usize,
-                number: number_in(line, 1),
-                copied: subject.copied,
-            };
+// Does what a line says to a file and the copy. Answers the subject after it.
+fn done(subject: Subject, call: u32, line: &[u8], file: &mut [u8], copy: &mut [u8]) -> Subject {
+    if KEEP <= call {
+        if call <= DIFFERENCES {
+            compare(call, subject.copied, file, copy);
+            print(b"\n");
+            return subject;
         }
     }
-    if call == KEEP {
-        let order = subject.order;
-        return Subject {
-            kind: subject.kind,
-            order: order,
-            length: subject.length,
-            number: subject.number,
-            copied: subject.length,
-        };
+    acted(subject, call, line, file)
+}
+
+// The subject with the file that a line makes.
+fn made(subject: Subject, call: u32, line: &[u8]) -> Subject {
+    let order = subject.order;
+    let layout = subject.layout;
+    Subject {
+        kind: call,
+        order: order,
+        length: number_in(line, 0) as usize,
+        number: number_in(line, 1),
+        layout: layout,
+        copied: subject.copied,
     }
-    subject
+}
+
+// The subject whose file is kept.
+fn copied(subject: Subject) -> Subject {
+    let order = subject.order;
+    let layout = subject.layout;
+    Subject {
+        kind: subject.kind,
+        order: order,
+        length: subject.length,
+        number: subject.number,
+        layout: layout,
+        copied: subject.length,
+    }
+}
+
+// The subject that a line is about.
+fn about(subject: Subject, call: u32, line: &[u8]) -> Subject {
+    match call {
+        AREA..=MD => made(subject, call, line),
+        KEEP => copied(subject),
+        _ => subject,
+    }
 }
 
 // The number of the word that a line begins with: a call of `worked_calls`, in their order, or one of those above.
@@ -374,24 +279,16 @@ fn call_of(line: &[u8]) -> u32 {
     )
 }
 
-// A line of the script. Answers what is known after it.
-fn step(known: Known, line: &[u8], space: &mut [u8], copy: &mut [u8]) -> Known {
-    let before = known.subject;
-    let kept = known.layout;
+// A line of the script. Answers the subject after it.
+fn step(before: Subject, line: &[u8], space: &mut [u8], copy: &mut [u8]) -> Subject {
     let call = call_of(line);
-    let subject = making(before, call, line);
+    let subject = about(before, call, line);
     let end = subject.length;
     print(line);
     if end <= space.len() {
-        let layout = acted(subject, kept, call, line, &mut space[0..end], copy);
-        return Known {
-            subject: subject,
-            layout: layout,
-        };
-    }
-    Known {
-        subject: subject,
-        layout: kept,
+        done(subject, call, line, &mut space[0..end], copy)
+    } else {
+        subject
     }
 }
 
@@ -411,31 +308,36 @@ fn no_layout(order: Order) -> Layout {
     })
 }
 
-// What is known before the first line: a file of no bytes, and a layout that no file gives.
-fn nothing(order: Order) -> Known {
+// The subject before the first line: a file of no bytes, and a layout that no file gives.
+fn nothing(order: Order) -> Subject {
     let layout = no_layout(order);
-    let subject = Subject {
+    Subject {
         kind: AREA,
         order: order,
         length: 0,
         number: 0,
-        copied: 0,
-    };
-    Known {
-        subject: subject,
         layout: layout,
+        copied: 0,
     }
 }
 
 // Runs a script with files in a byte order.
 fn run(text: &[u8], order: Order, space: &mut [u8], copy: &mut [u8]) {
-    let mut known = nothing(order);
+    let mut subject = nothing(order);
     let mut at = 0;
     while at < text.len() {
         let end = line_end(text, at);
-        known = step(known, &text[at..end], space, copy);
+        subject = step(subject, &text[at..end], space, copy);
         at = end + 1;
     }
+}
+
+// Runs a script with files in big order, and then in little order.
+fn run_both(text: &[u8], space: &mut [u8], copy: &mut [u8]) {
+    print(b"BIG ORDER\n");
+    run(text, Order::Big, space, copy);
+    print(b"LITTLE ORDER\n");
+    run(text, Order::Little, space, copy);
 }
 
 // Reads a script of at most 16,384 bytes from standard input and runs it in both byte orders. Answers how many bytes it took; what they are, the caller of the program
@@ -447,9 +349,6 @@ pub fn answer_standard_input() -> usize
     let mut space = [0u8; 16484];
     let mut copy = [0u8; 16484];
     let taken = io::read_full(STDIN_FILENO, &mut text);
-    print(b"BIG ORDER\n");
-    run(&text[..taken], Order::Big, &mut space, &mut copy);
-    print(b"LITTLE ORDER\n");
-    run(&text[..taken], Order::Little, &mut space, &mut copy);
+    run_both(&text[..taken], &mut space, &mut copy);
     taken
 }

@@ -11,10 +11,10 @@ use Rattle.worked_driver.proofs.run.Statement.{statement}
 use Rattle.worked_driver.proofs.run.Tie as tie
 
 abbrev Inv-loop : tie.InvT-loop
-Inv-loop text space₀ copy₀ known₀ at₀ space copy known at = (length space ≡ length space₀) × (length copy ≡ length copy₀)
+Inv-loop text space₀ copy₀ subject₀ at₀ space copy subject at = (length space ≡ length space₀) × (length copy ≡ length copy₀)
 
 abbrev μ-loop : tie.MeasureT-loop
-μ-loop text space₀ copy₀ known₀ at₀ space copy known at = length text - at
+μ-loop text space₀ copy₀ subject₀ at₀ space copy subject at = length text - at
 
 -- the end of a line is not before its start, nor behind the text
 from : (c : tie.After-line-end Inv-loop μ-loop) → c .before .before .loop .at ≤ c .line-end .result
