@@ -35,15 +35,15 @@ pub fn correct_point(
 
 // A correction of a grid: a row, a column and the value that the point should have.
 pub struct Correction {
-    row: u32,
-    column: u32,
-    value: i32,
+    pub row: u32,
+    pub column: u32,
+    pub value: i32,
 }
 
 // What two stores answer.
 pub struct TwoAnswers {
-    first: StoreAnswer,
-    second: StoreAnswer,
+    pub first: StoreAnswer,
+    pub second: StoreAnswer,
 }
 
 // Makes two corrections with a layout, one after the other. Each is refused as `stores::store_point`, and then changes nothing.
