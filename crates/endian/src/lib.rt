@@ -67,8 +67,8 @@ pub fn write_number(order: Order, width: usize, file: &mut [u8], at: usize, n: u
     }
 }
 
-// The two's-complement word that 32 bits stand for.
-fn signed(n: u32) -> i32
+// The two's-complement word that 32 bits, as an unsigned number, stand for.
+pub fn signed(n: u32) -> i32
     ensures { λ r. ⌜ r ≡ toZ w32 n ⌝ }
 {
     if n < 2147483648 {

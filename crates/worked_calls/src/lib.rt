@@ -9,9 +9,8 @@ use area_prefixes::region_bytes;
 use area_prefixes::region_span;
 use bands::Channel;
 use endian::Order;
-use endian::read_number;
+use endian::unsigned;
 use endian::write_number;
-use endian::write_signed;
 use grid_parts::copy_by_columns;
 use grid_parts::copy_by_rows;
 use grid_parts::header_bytes;
@@ -110,9 +109,7 @@ fn print_number(text: &[u8], n: u64) {
 
 // Writes text and a signed word behind it.
 fn print_word(text: &[u8], v: i32) {
-    let mut bytes = [0u8; 4];
-    write_signed(Order::Big, &mut bytes, 0, v);
-    let n = read_number(Order::Big, 4, &bytes, 0);
+    let n = unsigned(v);
     print(text);
     if n < 2147483648 {
         print_number(b"", n as u64);

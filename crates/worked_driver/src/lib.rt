@@ -14,8 +14,7 @@
 // Any other line is written as it is.
 use bands::Channel;
 use endian::Order;
-use endian::read_signed;
-use endian::write_number;
+use endian::signed;
 use layout::Layout;
 use layout::Opening;
 use layout::open_area;
@@ -176,13 +175,6 @@ fn asked(layout: Layout, call: u32, n: Numbers, file: &[u8]) {
     if !ask(file, layout, call, n.a, n.b, n.c) {
         print(b"\n");
     }
-}
-
-// The signed word whose 32 bits are a number.
-fn signed(n: u32) -> i32 {
-    let mut bytes = [0u8; 4];
-    write_number(Order::Big, 4, &mut bytes, 0, n);
-    read_signed(Order::Big, &bytes, 0)
 }
 
 // Stores the last of three or four numbers, at the place that the others say.
