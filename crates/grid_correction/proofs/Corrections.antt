@@ -21,7 +21,7 @@ use Rattle.layout.specs.declared.Layout.the-variants.{Grid}
 use Rattle.places.specs.declared.What.the-variants.{Point}
 use Rattle.places.proofs.Places.{Located, point-at, points-named}
 use Rattle.values.specs.Reading.{readPoint}
-use Rattle.values.proofs.Reading.{point-place}
+use Rattle.values.proofs.Reading.{point-located}
 use Rattle.store_plans.specs.Stores.{Store, signed, point, planOf, storesIn, storePoint, stores}
 use Rattle.store_plans.proofs.Stores.{order-does-not-matter}
 use Rattle.store_plans.proofs.Single.{reads-back, done-at, word-done}
@@ -32,7 +32,7 @@ use Rattle.grid_correction.specs.declared.Correction.{Correction}
 stored-reads : (f : List ℕ) (l : Layout) (r c : ℕ) (v old : ℤ) → SFits w32 v → readPoint f l r c ≡ gives old
     → readPoint (storePoint f l r c v .1) l r c ≡ gives v
 stored-reads f l r c v old typed e =
-    let done = word-done f l (point r c v) tt typed .1 (point-place f l r c old e) in
+    let done = word-done f l (point r c v) tt typed .1 (point-located f l r c old e) in
     mapped-gives signed (λ x y same. cc) (readPoint (storePoint f l r c v .1) l r c) v .0 (reads-back f l (point r c v) typed done)
 
 -- A point whose correction is answered its old value reads the new one, by the layout with which the file was opened.

@@ -98,8 +98,8 @@ module _ (f : List ℕ) (l : Layout) (q : Request) where
       step _ (there r w h) e = gives-refuses e
 
   -- With 9 it is refused exactly where the layout is stale.
-  pub stale-exactly : (storesIn f self .0 ≡ refuses 9 0) ↔ (¬ Fresh f l)
-  stale-exactly =
+  pub store-stale : (storesIn f self .0 ≡ refuses 9 0) ↔ (¬ Fresh f l)
+  store-stale =
       let x = refused-exactly 9 0 (λ e. omega (arith, e)) in
       let y = place-stale f l (whatOf q) in
       (λ e. y .0 (x .0 e), λ h. x .1 (y .1 h))

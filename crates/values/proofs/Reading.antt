@@ -170,8 +170,8 @@ module _ (f : List ℕ) (l : Layout) where
           word-exactly (Point r c) v .1 (p, at, x .value ∙ ap (λ (m : Layout). signedAt (orderOf m) f (p .address)) (sym (x .layout)))
 
   -- where it gives one, the point has a place
-  pub point-place : (r c : ℕ) (v : ℤ) → readPoint f l r c ≡ gives v → (p : Place) × Fresh f l × Located f l (Point r c) p
-  point-place r c v e = let (p, at, value) = word-exactly (Point r c) v .0 e in (p, at .0, at .1)
+  pub point-located : (r c : ℕ) (v : ℤ) → readPoint f l r c ≡ gives v → (p : Place) × Fresh f l × Located f l (Point r c) p
+  point-located r c v e = let (p, at, value) = word-exactly (Point r c) v .0 e in (p, at .0, at .1)
 
   -- a field of a file: the layout is an MD layout that opening the file gives, there is such a field, and v is the signed word at its address
   pub record FieldOf (r c k : ℕ) (v : ℤ) : Type 0 where
