@@ -7,3 +7,4 @@ pub mod Filled
 pub mod Kept
 pub mod Every
 pub mod Rows
+pub mod Lowest

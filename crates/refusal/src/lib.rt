@@ -34,6 +34,12 @@ pub const STALE: u32 = 9;
 pub const SHORT_OUTPUT: u32 = 10;
 // A word is no date, or no time of day. Place 0.
 pub const NO_DATE: u32 = 11;
+// The values or the header of a grid to add are of the wrong length. Place 0.
+pub const WRONG_LENGTH: u32 = 12;
+// A grid is to be added, and the file has no empty slot. Place 0.
+pub const NO_EMPTY_SLOT: u32 = 13;
+// A grid is to be added, and the file has no room for it. Place 0.
+pub const NO_ROOM: u32 = 14;
 
 // What a call answers whose value is an unsigned number of 32 bits: the value, or a refusal.
 pub enum NumberAnswer {

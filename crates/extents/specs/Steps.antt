@@ -1,0 +1,52 @@
+-- What the functions compute on their way: the grids slot by slot, and the free stretches one after another.
+-- Assumes nothing.
+use mathlib.Core.Path.{_≡_}
+use mathlib.Core.List.{List}
+use Prim.Native.Nat.{ℕ, zero, suc, _+_, _-_, _/_, _≤_, _<_}
+use lib.Dec.{leb, ltb}
+use lib.ListN.{length}
+use Rattle.lists.specs.Choices.{pick, both}
+use Rattle.endian.specs.Words.{wordAt}
+use Rattle.endian.specs.declared.Order.{Order}
+use Rattle.refusal.specs.Rules.{firstFault}
+use Rattle.refusal.specs.declared.Verdict.the-variants.{Pass}
+use Rattle.grid_rules.specs.Rules.{fileRules}
+use Rattle.grid_rules.specs.Accepts.{Full}
+use Rattle.extents.specs.Stretches.{extent, none, endOf, slotExtent, lowestFree, firstWord, runFrom}
+use Rattle.extents.specs.declared.Extent.{Extent}
+
+-- the file is accepted
+abbrev pub Accepted : Order → List ℕ → Type 0
+Accepted o f = firstFault (fileRules (length f) (wordAt o f)) ≡ Pass
+
+-- what reading the slots of a file of `len` bytes asks: that the directory is inside the file, and each grid's first word
+pub record Slots (len : ℕ) (w : ℕ → ℕ) : Type 0 where
+  pub few : w 10 ≤ 1024
+  pub room : 12 + w 10 ≤ len / 4
+  pub inside : (k : ℕ) → k < w 10 → Full w k → w (11 + k) < len / 4
+
+-- the end of a grid of the first k slots that has word p; p where none has it
+unfoldable pub pastGrid : (ℕ → ℕ) → ℕ → ℕ → ℕ
+pastGrid w p zero = p
+pastGrid w p (suc k) = pick (both (leb (slotExtent w k .start) p) (ltb p (endOf (slotExtent w k)))) (endOf (slotExtent w k)) (pastGrid w p k)
+
+-- the lowest start, from p on, of the grids of the first k slots; `whole` where there is none
+unfoldable pub nextGrid : (ℕ → ℕ) → ℕ → ℕ → ℕ → ℕ
+nextGrid w whole p zero = whole
+nextGrid w whole p (suc k) =
+    pick (both (ltb 0 (slotExtent w k .length)) (both (leb p (slotExtent w k .start)) (ltb (slotExtent w k .start) (nextGrid w whole p k))))
+    (slotExtent w k .start)
+    (nextGrid w whole p k)
+
+-- the first run of free words from word p on; no words, at `whole`, where there is none
+unfoldable pub runAfter : (ℕ → ℕ) → ℕ → ℕ → Extent
+runAfter w whole p = runFrom w whole (lowestFree w whole p)
+
+-- the words before 12 + n, of a file that has them
+unfoldable pub directory : Order → List ℕ → Extent
+directory o f = pick (leb 44 (length f)) (extent 0 (firstWord (wordAt o f))) none
+
+-- the runs one after another: the directory, and then each time the first run behind the one before
+unfoldable pub run : Order → List ℕ → ℕ → Extent
+run o f zero = directory o f
+run o f (suc i) = runAfter (wordAt o f) (length f / 4) (endOf (run o f i))

@@ -1,0 +1,53 @@
+// Deleting a grid and adding one, with the room of deleted grids used again. Both calls take the file and its byte order, and no layout; after either, a lent
+// table holds the free stretches of the file, the longest runs of words that no grid has, in address order.
+use endian::Order;
+use extent_tables::fill;
+use extent_tables::search;
+use extents::Extent;
+use grid_changes::AddAnswer;
+use grid_writes::add_at;
+use grid_writes::delete_in;
+use grid_writes::plan_add;
+use refusal::SizeAnswer;
+ghost use mathlib.Core.Path.{_≡_};
+ghost use Rattle.refusal.specs.Answers.{sizeSays};
+ghost use Rattle.grid_changes.specs.Changes.{addSays, deleteGrid, addGrid};
+
+// Deletes the grid of a number, counted from 1: its slot becomes empty, and the next free word the end of the highest grid that is left. No other byte changes.
+// Answers how many free stretches the file has now, which stand in the first places of the table; places past them stay.
+//
+// Refused by the first fault of the whole file, 1 to 5; then with 10 where the table has fewer than n + 1 places, 7 where there is no such grid, 6 where its slot
+// is empty. A refusal leaves the file and the table as they were.
+pub fn delete(file: &mut [u8], order: Order, number: u32, table: &mut [Extent]) -> SizeAnswer
+    ensures { λ r. ⌜ (sizeSays r, (now (file .exit), now (table .exit))) ≡ deleteGrid order (now (file .entry)) number (now (table .entry)) ⌝ }
+{
+    let change = delete_in(file, order, number, table.len());
+    fill(table, file, order, change.count);
+    change.answer
+}
+
+// Adds a grid of so many rows and columns: its header, 256 bytes as they go into the file but for words 1 to 3, which are the size, the rows and the columns, and
+// its values by columns. It takes the lowest-numbered empty slot, and begins at the lowest word, from 12 + n on, at which it lies inside the file and in no grid
+// and ends by 2,147,483,647. The next free word becomes the end of the highest grid. No other byte changes. Answers the grid's number, the word at which it
+// begins, and how many free stretches the file has now, which stand in the first places of the table; places past them stay.
+//
+// Refused by the first fault of the whole file, 1 to 5; then with 10 where the table has fewer than n + 1 places, 3 where rows or columns are not from 1 to
+// 65,535, 12 where the values are not rows times columns or the header is not 256 bytes, 13 where no slot is empty, 14 where the grid has no room. A refusal
+// leaves the file and the table as they were.
+pub fn add(
+    file: &mut [u8],
+    order: Order,
+    header: &[u8],
+    rows: u32,
+    columns: u32,
+    values: &[i32],
+    table: &mut [Extent],
+) -> AddAnswer
+    ensures { λ r. ⌜ (addSays r, (now (file .exit), now (table .exit))) ≡ addGrid order (now (file .entry)) (now (header .entry)) rows columns (now (values .entry)) (now (table .entry)) ⌝ }
+{
+    let plan = plan_add(file, order, header.len(), rows, columns, values.len(), table.len());
+    let found = search(table, file, order, plan.count, plan.need);
+    let change = add_at(file, order, header, rows, columns, values, table.len(), plan, found.start);
+    fill(table, file, order, change.count);
+    change.answer
+}
