@@ -12,8 +12,9 @@ use Rattle.refusal.specs.Rules.{firstFault}
 use Rattle.refusal.specs.declared.Verdict.the-variants.{Pass}
 use Rattle.grid_rules.specs.Rules.{fileRules}
 use Rattle.grid_rules.specs.Accepts.{Full}
-use Rattle.extents.specs.Stretches.{extent, none, endOf, slotExtent, lowestFree, firstWord, runFrom}
+use Rattle.extents.specs.Stretches.{extent, none, endOf, slotExtent, lowestFree, firstWord, runFrom, freeStretches}
 use Rattle.extents.specs.declared.Extent.{Extent}
+use Rattle.extents.specs.declared.Survey.{Survey}
 
 -- the file is accepted
 abbrev pub Accepted : Order → List ℕ → Type 0
@@ -50,3 +51,11 @@ directory o f = pick (leb 44 (length f)) (extent 0 (firstWord (wordAt o f))) non
 unfoldable pub run : Order → List ℕ → ℕ → Extent
 run o f zero = directory o f
 run o f (suc i) = runAfter (wordAt o f) (length f / 4) (endOf (run o f i))
+
+-- how many free stretches a file has, and the last of them; the directory where there is none
+unfoldable pub survey : Order → List ℕ → Survey
+survey o f =
+    record {
+      count = length (freeStretches (wordAt o f) (length f / 4));
+      last = run o f (length (freeStretches (wordAt o f) (length f / 4)));
+    }

@@ -8,14 +8,20 @@ ghost use mathlib.Core.Path.{_≡_};
 ghost use Prim.Native.Nat.{_+_, _-_, _/_, _≤_, _<_};
 ghost use lib.ListN.{length};
 ghost use Rattle.endian.specs.Words.{wordAt};
-ghost use Rattle.extents.specs.Stretches.{endOf, slotExtent, highestEnd, firstWord, lowestFree, freeStretches};
+ghost use Rattle.extents.specs.Stretches.{endOf, slotExtent, highestEnd, firstWord, lowestFree};
 ghost use Rattle.extents.specs.Rooms.{fitsIn, firstOf, hasRoom};
-ghost use Rattle.extents.specs.Steps.{Accepted, Slots, pastGrid, nextGrid, runAfter, directory};
+ghost use Rattle.extents.specs.Steps.{Accepted, Slots, pastGrid, nextGrid, runAfter, directory, survey};
 
 // So many words of a file, from a start on, counted from 0.
 pub struct Extent {
     pub start: usize,
     pub length: usize,
+}
+
+// The free stretches of a file: how many they are, and the last of them.
+pub struct Survey {
+    pub count: usize,
+    pub last: Extent,
 }
 
 // The greatest word at which a grid may end: the next free word is a signed word.
@@ -144,19 +150,23 @@ pub fn run_after(file: &[u8], order: Order, e: Extent) -> Extent
     }
 }
 
-// How many free stretches a file has. The caller must make sure that it is accepted.
-pub fn count_stretches(file: &[u8], order: Order) -> usize
+// How many free stretches a file has, and the last of them; the directory where there is none. The caller must make sure that it is accepted.
+pub fn survey(file: &[u8], order: Order) -> Survey
     requires { ⌜ Accepted order (now file) ⌝ }
-    ensures { λ r. ⌜ r ≡ length (freeStretches (wordAt order (now (file .entry))) (length (now (file .entry)) / 4)) ⌝ }
+    ensures { λ r. ⌜ r ≡ survey order (now (file .entry)) ⌝ }
 {
-    let start = directory(file, order);
-    let mut e = run_after(file, order, start);
+    let mut last = directory(file, order);
+    let mut e = run_after(file, order, last);
     let mut count = 0;
     while 0 < e.length {
+        last = e;
         e = run_after(file, order, e);
         count += 1;
     }
-    count
+    Survey {
+        count: count,
+        last: last,
+    }
 }
 
 // Whether so many words fit into an extent, and end by 2,147,483,647.

@@ -47,7 +47,7 @@ pub fn add(
 {
     let plan = plan_add(file, order, header.len(), rows, columns, values.len(), table.len());
     let found = search(table, file, order, plan.count, plan.need);
-    let change = add_at(file, order, header, rows, columns, values, table.len(), plan, found.start);
+    let change = add_at(file, order, header, rows, columns, values, table.len(), plan, found);
     fill(table, file, order, change.count);
     change.answer
 }

@@ -2,7 +2,7 @@
 -- Assumes nothing.
 use mathlib.Core.Path.{_≡_}
 use mathlib.Core.List.{List}
-use Prim.Native.Nat.{ℕ, _+_}
+use Prim.Native.Nat.{ℕ, _+_, _-_}
 use lib.IntN.{ℤ}
 use lib.ListN.{length}
 use Rattle.endian.specs.Words.{wordAt}
@@ -12,6 +12,10 @@ use Rattle.refusal.specs.Answers.{Answer, gives, refuses, sizeSays}
 use Rattle.refusal.specs.declared.Refusal.{Refusal}
 use Rattle.refusal.specs.declared.Verdict.{Verdict}
 use Rattle.refusal.specs.declared.Verdict.the-variants.{Pass, Fault}
+use Rattle.extents.specs.Stretches.{none}
+use Rattle.extents.specs.Rooms.{firstOf}
+use Rattle.extents.specs.Steps.{run}
+use Rattle.extents.specs.declared.Extent.{Extent}
 use Rattle.grid_changes.specs.Changes.{addSays, stretchesOf, deleteRules, withoutGrid, gridWords, lowestEmpty, addressFor, addRules, withGrid, added}
 use Rattle.grid_changes.specs.declared.Added.{Added}
 use Rattle.grid_writes.specs.declared.Deletion.{Deletion}
@@ -37,12 +41,13 @@ deleteStep o f number size = stepped (firstFault (deleteRules o f number size)) 
 
 -- the plan of an addition that is refused
 abbrev pub refusedPlan : Refusal → AddPlan
-refusedPlan r = record { verdict = Fault r; number = 0; need = 0; count = 0 }
+refusedPlan r = record { verdict = Fault r; number = 0; need = 0; count = 0; last = none }
 
--- the plan of an addition by the verdict of its rules: the number of the slot, the words that the grid needs, and how many free stretches the file has
+-- The plan of an addition by the verdict of its rules: the number of the slot, the words that the grid needs, how many free stretches there are before the last,
+-- and the last.
 abbrev pub planned : Verdict → Order → List ℕ → ℕ → ℕ → AddPlan
 planned Pass o f rows columns =
-    record { verdict = Pass; number = lowestEmpty (wordAt o f) + 1; need = gridWords rows columns; count = length (stretchesOf o f) }
+    record { verdict = Pass; number = lowestEmpty (wordAt o f) + 1; need = gridWords rows columns; count = length (stretchesOf o f) - 1; last = run o f (length (stretchesOf o f)) }
 planned (Fault r) o f rows columns = refusedPlan r
 
 -- the plan of an addition, for so many header bytes and values, and a table of `size` pairs
@@ -54,7 +59,8 @@ unfoldable pub addStep : Order → List ℕ → List ℕ → ℕ → ℕ → Lis
 addStep o f header rows columns values size =
     stepped (firstFault (addRules o f (length header) rows columns (length values) size)) (added o f rows columns) o f (withGrid o f header rows columns values)
 
--- what carrying out a plan asks: that it is the plan, and that the address is the lowest at which the grid has room
-pub record Ready (o : Order) (f header : List ℕ) (rows columns : ℕ) (values : List ℤ) (size : ℕ) (plan : AddPlan) (at : ℕ) : Type 0 where
+-- What carrying out a plan asks: that it is the plan, and that what was found among the free stretches before the last, or else the last, begins at the lowest
+-- address at which the grid has room.
+pub record Ready (o : Order) (f header : List ℕ) (rows columns : ℕ) (values : List ℤ) (size : ℕ) (plan : AddPlan) (found : Extent) : Type 0 where
   pub planned : plan ≡ addPlan o f (length header) rows columns (length values) size
-  pub address : plan .verdict ≡ Pass → at ≡ addressFor o f (gridWords rows columns)
+  pub address : plan .verdict ≡ Pass → firstOf (plan .need) found (plan .last) .start ≡ addressFor o f (gridWords rows columns)

@@ -3,9 +3,11 @@ use endian::Order;
 use endian::read_word;
 use endian::write_number;
 use endian::write_signed;
-use extents::count_stretches;
+use extents::Extent;
+use extents::first_of;
 use extents::has_room;
 use extents::highest_end;
+use extents::survey;
 use grid::file_verdict;
 use grid_changes::AddAnswer;
 use grid_changes::Added;
@@ -42,13 +44,15 @@ pub struct Deletion {
     pub count: usize,
 }
 
-// The plan of an addition: what its rules say; and where they pass the number of its slot, counted from 1, how many words the grid needs, and how many free
-// stretches the file has. Where they do not, no numbers.
+// The plan of an addition: what its rules say; and where they pass the number of its slot, counted from 1, how many words the grid needs, how many free
+// stretches the file has before the last, and the last. Only those before the last are put into the table to be searched: an addition may leave one stretch
+// fewer, and then the place of the last stays as it was.
 pub struct AddPlan {
     pub verdict: Verdict,
     pub number: u32,
     pub need: usize,
     pub count: usize,
+    pub last: Extent,
 }
 
 // What adding a grid leaves to be done: what is answered, and how many places of the table are to be filled.
@@ -99,7 +103,7 @@ pub fn delete_in(file: &mut [u8], order: Order, number: u32, size: usize) -> Del
         Verdict::Pass => {
             write_number(order, 4, file, 4 * (10 + number as usize), EMPTY_SLOT);
             set_next_free(file, order);
-            let count = count_stretches(file, order);
+            let count = survey(file, order).count;
             Deletion {
                 answer: SizeAnswer::Value(count),
                 count: count,
@@ -159,6 +163,10 @@ fn refused(refusal: Refusal) -> AddPlan
         number: 0,
         need: 0,
         count: 0,
+        last: Extent {
+            start: 0,
+            length: 0,
+        },
     }
 }
 
@@ -179,12 +187,16 @@ pub fn plan_add(
         Verdict::Pass => {
             match add_verdict(file, order, headers, rows, columns, values, size) {
                 Verdict::Fault(refusal) => refused(refusal),
-                Verdict::Pass => AddPlan {
-                    verdict: Verdict::Pass,
-                    number: lowest_empty(file, order) as u32 + 1,
-                    need: 64 + rows as usize * columns as usize,
-                    count: count_stretches(file, order),
-                },
+                Verdict::Pass => {
+                    let stretches = survey(file, order);
+                    AddPlan {
+                        verdict: Verdict::Pass,
+                        number: lowest_empty(file, order) as u32 + 1,
+                        need: 64 + rows as usize * columns as usize,
+                        count: stretches.count - 1,
+                        last: stretches.last,
+                    }
+                }
             }
         }
     }
@@ -238,8 +250,9 @@ fn write_grid(
     write_values(file, order, 4 * at + 256, values);
 }
 
-// Carries out the plan of an addition, at an address. The caller must make sure that the plan is the one for this file, and the address the lowest at which the
-// grid has room. Nothing is written where the plan refuses.
+// Carries out the plan of an addition, where `found` was found among the free stretches before the last. The caller must make sure that the plan is the one for
+// this file, and that what was found, or else the last stretch, begins at the lowest address at which the grid has room. Nothing is written where the plan
+// refuses.
 pub fn add_at(
     file: &mut [u8],
     order: Order,
@@ -249,9 +262,9 @@ pub fn add_at(
     values: &[i32],
     size: usize,
     plan: AddPlan,
-    at: usize,
+    found: Extent,
 ) -> Addition
-    requires { ⌜ Ready order (now file) (now header) rows columns (now values) size plan at ⌝ }
+    requires { ⌜ Ready order (now file) (now header) rows columns (now values) size plan found ⌝ }
     ensures { λ r. ⌜ (additionSays r, now (file .exit)) ≡ addStep order (now (file .entry)) (now (header .entry)) rows columns (now (values .entry)) size ⌝ }
 {
     match plan.verdict {
@@ -260,10 +273,11 @@ pub fn add_at(
             count: 0,
         },
         Verdict::Pass => {
+            let at = first_of(plan.need, found, plan.last).start;
             write_grid(file, order, header, rows, columns, values, at);
             write_number(order, 4, file, 4 * (10 + plan.number as usize), at as u32);
             set_next_free(file, order);
-            let count = count_stretches(file, order);
+            let count = survey(file, order).count;
             Addition {
                 answer: AddAnswer::Done(Added {
                     number: plan.number,
