@@ -10,7 +10,7 @@ use Rattle.endian.specs.Words.{wordAt}
 use Rattle.endian.specs.declared.Order.{Order}
 use Rattle.refusal.specs.Rules.{firstFault}
 use Rattle.refusal.specs.declared.Verdict.the-variants.{Pass}
-use Rattle.grid_rules.specs.Rules.{fileRules}
+use Rattle.grid_rules.specs.Rules.{gridEnd, fileRules}
 use Rattle.grid_rules.specs.Accepts.{Full}
 use Rattle.extents.specs.Stretches.{extent, none, endOf, slotExtent, lowestFree, firstWord, runFrom, freeStretches}
 use Rattle.extents.specs.declared.Extent.{Extent}
@@ -20,11 +20,11 @@ use Rattle.extents.specs.declared.Survey.{Survey}
 abbrev pub Accepted : Order → List ℕ → Type 0
 Accepted o f = firstFault (fileRules (length f) (wordAt o f)) ≡ Pass
 
--- what reading the slots of a file of `len` bytes asks: that the directory is inside the file, and each grid's first word
+-- what reading the slots of a file of `len` bytes asks: that the directory is inside the file, and each grid
 pub record Slots (len : ℕ) (w : ℕ → ℕ) : Type 0 where
   pub few : w 10 ≤ 1024
   pub room : 12 + w 10 ≤ len / 4
-  pub inside : (k : ℕ) → k < w 10 → Full w k → w (11 + k) < len / 4
+  pub inside : (k : ℕ) → k < w 10 → Full w k → gridEnd w (w (11 + k)) ≤ len / 4
 
 -- the end of a grid of the first k slots that has word p; p where none has it
 unfoldable pub pastGrid : (ℕ → ℕ) → ℕ → ℕ → ℕ

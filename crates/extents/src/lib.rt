@@ -27,7 +27,7 @@ pub struct Survey {
 // The greatest word at which a grid may end: the next free word is a signed word.
 pub const LAST_END: usize = 2147483647;
 
-// The words of slot k's grid; no words where the slot is empty. The slots must be inside the file, and each grid's first word.
+// The words of slot k's grid; no words where the slot is empty. The directory must be inside the file, and each grid.
 fn slot_extent(file: &[u8], order: Order, k: usize) -> Extent
     requires { ⌜ Slots (length (now file)) (wordAt order (now file)) × (k < wordAt order (now file) 10) ⌝ }
     ensures { λ r. ⌜ r ≡ slotExtent (wordAt order (now (file .entry))) k ⌝ }
@@ -48,7 +48,7 @@ fn slot_extent(file: &[u8], order: Order, k: usize) -> Extent
 }
 
 // The end of the highest grid of a file, or 12 + n where there is none: what its next free word is after a grid was deleted or added. The caller must make
-// sure that the slots are inside the file, and each grid's first word.
+// sure that the directory is inside the file, and each grid.
 pub fn highest_end(file: &[u8], order: Order) -> usize
     requires { ⌜ Slots (length (now file)) (wordAt order (now file)) ⌝ }
     ensures { λ r. ⌜ r ≡ highestEnd (wordAt order (now (file .entry))) (firstWord (wordAt order (now (file .entry)))) (wordAt order (now (file .entry)) 10) ⌝ }
@@ -151,7 +151,7 @@ pub fn run_after(file: &[u8], order: Order, e: Extent) -> Extent
 }
 
 // How many free stretches a file has, and the last of them; the directory where there is none. The caller must make sure that it is accepted.
-pub fn survey(file: &[u8], order: Order) -> Survey
+pub fn survey_free(file: &[u8], order: Order) -> Survey
     requires { ⌜ Accepted order (now file) ⌝ }
     ensures { λ r. ⌜ r ≡ survey order (now (file .entry)) ⌝ }
 {

@@ -24,7 +24,7 @@ use Rattle.grid_rules.specs.Rules.{nextFree, emptySlot, isEmpty, gridEnd
 use Rattle.grid_rules.specs.Accepts.{Full, AcceptsHead, Room, AcceptsSlot}
 
 -- what holds of every number below m and of m holds of every number below m + 1
-below-more : {P : ℕ → Type 0} (m : ℕ) → ((k : ℕ) → k < m → P k) → P m → (k : ℕ) → k < suc m → P k
+pub below-more : {P : ℕ → Type 0} (m : ℕ) → ((k : ℕ) → k < m → P k) → P m → (k : ℕ) → k < suc m → P k
 below-more {P} m before here k l = ⊎-elim (λ e. subst P (sym e) here) (λ lt. before k lt) (eq-or-lt-of-le (le-of-suc-le-suc l))
 
 -- the slot of a grid's number, which is counted from 1

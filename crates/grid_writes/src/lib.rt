@@ -7,7 +7,7 @@ use extents::Extent;
 use extents::first_of;
 use extents::has_room;
 use extents::highest_end;
-use extents::survey;
+use extents::survey_free;
 use grid::file_verdict;
 use grid_changes::AddAnswer;
 use grid_changes::Added;
@@ -103,7 +103,7 @@ pub fn delete_in(file: &mut [u8], order: Order, number: u32, size: usize) -> Del
         Verdict::Pass => {
             write_number(order, 4, file, 4 * (10 + number as usize), EMPTY_SLOT);
             set_next_free(file, order);
-            let count = survey(file, order).count;
+            let count = survey_free(file, order).count;
             Deletion {
                 answer: SizeAnswer::Value(count),
                 count: count,
@@ -188,7 +188,7 @@ pub fn plan_add(
             match add_verdict(file, order, headers, rows, columns, values, size) {
                 Verdict::Fault(refusal) => refused(refusal),
                 Verdict::Pass => {
-                    let stretches = survey(file, order);
+                    let stretches = survey_free(file, order);
                     AddPlan {
                         verdict: Verdict::Pass,
                         number: lowest_empty(file, order) as u32 + 1,
@@ -277,7 +277,7 @@ pub fn add_at(
             write_grid(file, order, header, rows, columns, values, at);
             write_number(order, 4, file, 4 * (10 + plan.number as usize), at as u32);
             set_next_free(file, order);
-            let count = survey(file, order).count;
+            let count = survey_free(file, order).count;
             Addition {
                 answer: AddAnswer::Done(Added {
                     number: plan.number,

@@ -1,0 +1,4 @@
+pub mod Slots
+pub mod Free
+pub mod Runs
+pub mod Fit

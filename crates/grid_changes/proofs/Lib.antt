@@ -1,0 +1,4 @@
+pub mod Words
+pub mod Highest
+pub mod Deleted
+pub mod Worked
