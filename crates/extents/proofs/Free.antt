@@ -1,8 +1,9 @@
--- Laws of free words, of the words at which a free stretch starts, and of the run of free words from a word on, over any words of a file.
+-- Laws of free words, of the words at which a free stretch starts, and of the run of free words from a word on, over any words of a file; and what an
+-- accepted file gives of them.
 -- Assumes nothing.
 use mathlib.Core.Path.{_≡_, refl, sym, ap, _∙_}
 use mathlib.Core.Bool.{Bool, true, false, not, false≢true}
-use mathlib.Core.Logic.{_⊎_, inl, inr, ⊎-elim, _↔_}
+use mathlib.Core.Logic.{_⊎_, inl, inr, ⊎-elim}
 use mathlib.Core.List.{List, [], _∷_}
 use Prim.Native.Nat.{ℕ, zero, suc, _+_, _-_, _/_, _≤_, _<_}
 use native.Mathlib.Decide.{decLt}
@@ -11,7 +12,7 @@ use borrow.Author.Tests.{not-true, not-false}
 use lib.ListN.{length}
 use Rattle.endian.specs.Words.{wordAt}
 use Rattle.endian.specs.declared.Order.{Order}
-use Rattle.lists.specs.Lowest.{lowest, IsLowest}
+use Rattle.lists.specs.Lowest.{IsLowest}
 use Rattle.lists.proofs.Choices.{either-true}
 use Rattle.lists.proofs.Lowest.{lowest-is}
 use Rattle.refusal.specs.Tests.{Exactly}
@@ -88,7 +89,7 @@ module _ (w : ℕ → ℕ) where
       ⊎-elim (λ x. let r = shares-some low high k x in (r .0, (omega (arith, r .1 .0), r .1 .1))) (λ x. (k, (omega arith, x)))
       (either-true (shares w low high k) (meets w low high k) e)
 
-  -- a word is not free exactly where the grid of some slot has it
+  -- a word that is not free is one of the grid of some slot
   pub taken-slot : (p : ℕ) → isFree w p ≡ false → (k : ℕ) × Has w p k
   unfolding noGridHas
   taken-slot p e =
@@ -96,6 +97,7 @@ module _ (w : ℕ → ℕ) where
       let m = meets-exactly w p (p + 1) (r .0) .sound (r .1 .1) in
       (r .0, record { slot = r .1 .0; full = m .0; from = omega (arith, m .1 .1); to = m .1 .0 })
 
+  -- and a word of the grid of a slot is not free
   pub slot-taken : (p k : ℕ) → Has w p k → isFree w p ≡ false
   slot-taken p k h =
       fails (none-has-exactly p (p + 1))

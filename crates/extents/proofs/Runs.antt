@@ -7,7 +7,7 @@ use mathlib.Core.Logic.{_⊎_, inl, inr, ⊎-elim}
 use mathlib.Core.List.{List, [], _∷_, _++_, append-nil}
 use Prim.Native.Nat.{ℕ, zero, suc, _+_, _-_, _/_, _≤_, _<_}
 use native.Mathlib.Nat.{add-suc, eq-or-lt-of-le, le-of-suc-le-suc}
-use native.Mathlib.Decide.{decLt, le-ind}
+use native.Mathlib.Decide.{decLt}
 use native.Mathlib.Omega.{arith}
 use borrow.Author.Tests.{le-leb}
 use lib.Dec.{leb}
@@ -25,10 +25,11 @@ use Rattle.refusal.proofs.Exactness.{le-exactly, eq-exactly, not-exactly, both-
 use Rattle.grid_rules.specs.Rules.{emptySlot, isEmpty, gridEnd}
 use Rattle.grid_rules.specs.Accepts.{Full}
 use Rattle.grid_rules.proofs.Slots.{below-more}
-use Rattle.extents.specs.Stretches.{extent, endOf, isFree, firstWord, lowestFree, starts, runFrom, stretchAt, freeStretches}
+use Rattle.extents.specs.Stretches.{endOf, isFree, firstWord, lowestFree, starts, runFrom, stretchAt, freeStretches}
 use Rattle.extents.specs.Steps.{Accepted, runAfter, directory, run}
 use Rattle.extents.specs.declared.Extent.{Extent}
-use Rattle.extents.proofs.Free.{accepted-file, directory-inside, fails, Has, none-has-exactly, taken-slot, starts-exactly, taken-no-start, later-no-start, stretch-one, stretch-none, RunAt, run-at, run-some}
+use Rattle.extents.proofs.Free.{accepted-file, directory-inside, fails, Has, none-has-exactly, taken-slot, starts-exactly, taken-no-start, later-no-start}
+use Rattle.extents.proofs.Free.{stretch-one, stretch-none, RunAt, run-at, run-some}
 
 -- ---- the first run of free words from a word on
 
@@ -66,13 +67,13 @@ module _ (w : ℕ → ℕ) (whole : ℕ) where
                   absurd z
               ends empty (no ge) = omega (arith, ge, r .start, r .to)
 
-  -- the word p is 12 + n, or behind a run: no free word of the file
-  abbrev pub Edge : ℕ → Type 0
+  -- the word p is 12 + n, or is no free word of the file: where a run before it ends
+  abbrev Edge : ℕ → Type 0
   Edge p = (p ≡ firstWord w) ⊎ (p < whole → isFree w p ≡ false)
 
   module _ (p : ℕ) (e : Extent) (r : FirstRun w whole p e) where
     -- where the first run from an edge on has words, a free stretch starts at it
-    pub run-starts : 0 < e .length → Edge p → starts w (e .start) ≡ true
+    run-starts : 0 < e .length → Edge p → starts w (e .start) ≡ true
     run-starts some edge = starts-exactly w (e .start) .complete (first, before (eq-or-lt-of-le (r .from)))
       where
         first : isFree w (e .start) ≡ true
@@ -88,7 +89,7 @@ module _ (w : ℕ → ℕ) (whole : ℕ) where
 -- ---- lines that are empty
 
 -- lines that are empty add nothing
-pub lines-still : {A : Type 0} (g : ℕ → List A) (a b : ℕ) → a ≤ b → ((i : ℕ) → a ≤ i → i < b → g i ≡ []) → linesOf g b ≡ linesOf g a
+lines-still : {A : Type 0} (g : ℕ → List A) (a b : ℕ) → a ≤ b → ((i : ℕ) → a ≤ i → i < b → g i ≡ []) → linesOf g b ≡ linesOf g a
 unfolding linesOf
 lines-still g a zero l h = let e : 0 ≡ a = omega arith in ap (linesOf g) e
 lines-still g a (suc b) l h =
@@ -103,17 +104,17 @@ lines-still g a (suc b) l h =
 
 module _ (w : ℕ → ℕ) (whole : ℕ) where
   -- those that start below word p
-  abbrev pub stretchesTo : ℕ → List Extent
+  abbrev stretchesTo : ℕ → List Extent
   stretchesTo p = linesOf (λ i. stretchAt w whole (firstWord w + i)) (p - firstWord w)
 
   -- words at which none starts add none
-  pub to-still : (p q : ℕ) → firstWord w ≤ p → p ≤ q → ((i : ℕ) → p ≤ i → i < q → starts w i ≡ false) → stretchesTo q ≡ stretchesTo p
+  to-still : (p q : ℕ) → firstWord w ≤ p → p ≤ q → ((i : ℕ) → p ≤ i → i < q → starts w i ≡ false) → stretchesTo q ≡ stretchesTo p
   to-still p q from l h =
       lines-still (λ i. stretchAt w whole (firstWord w + i)) (p - firstWord w) (q - firstWord w) (omega arith)
       (λ i low high. stretch-none w whole (firstWord w + i) (h (firstWord w + i) (omega arith) (omega arith)))
 
   -- a word at which one starts adds it
-  pub to-more : (p : ℕ) → firstWord w ≤ p → starts w p ≡ true → stretchesTo (suc p) ≡ stretchesTo p ++ runFrom w whole p ∷ []
+  to-more : (p : ℕ) → firstWord w ≤ p → starts w p ≡ true → stretchesTo (suc p) ≡ stretchesTo p ++ runFrom w whole p ∷ []
   unfolding linesOf
   to-more p from e =
       let n : suc p - firstWord w ≡ suc (p - firstWord w) = omega arith in
@@ -123,7 +124,7 @@ module _ (w : ℕ → ℕ) (whole : ℕ) where
 
   module _ (p : ℕ) (e : Extent) (from : firstWord w ≤ p) (r : FirstRun w whole p e) where
     -- the first run from an edge on, where it has words, is the next of them
-    pub to-run : Edge w whole p → 0 < e .length → stretchesTo (endOf e) ≡ stretchesTo p ++ e ∷ []
+    to-run : Edge w whole p → 0 < e .length → stretchesTo (endOf e) ≡ stretchesTo p ++ e ∷ []
     to-run edge some =
         to-still (suc (e .start)) (endOf e) (omega (arith, from, r .from)) (omega (arith, some))
         (λ i low high. later-no-start w i (omega (arith, from, low, r .from)) (r .at .free (i - 1) (omega arith) (omega arith)))
@@ -132,18 +133,19 @@ module _ (w : ℕ → ℕ) (whole : ℕ) where
           (to-still p (e .start) from (r .from) (λ i low high. taken-no-start w i (r .taken i low high))) (r .same)
 
     -- where it has none, there is none behind p
-    pub to-last : e .length ≡ 0 → stretchesTo whole ≡ stretchesTo p
+    to-last : e .length ≡ 0 → stretchesTo whole ≡ stretchesTo p
     to-last empty =
         let end : e .start ≡ whole = r .none empty in
         to-still p whole from (omega (arith, end, r .from)) (λ i low high. taken-no-start w i (r .taken i low (omega (arith, high, end))))
 
 -- ---- the runs of an accepted file
 
--- the first is the directory, and the next is the first behind an extent that is the one before
+-- the first is the directory
 pub run-begin : (o : Order) (f : List ℕ) → directory o f ≡ run o f 0
 unfolding run
 run-begin o f = refl
 
+-- and the next is the first behind an extent that is the one before
 pub run-more : (o : Order) (f : List ℕ) (i : ℕ) (e : Extent) → e ≡ run o f i → runAfter (wordAt o f) (length f / 4) (endOf e) ≡ run o f (suc i)
 unfolding run
 run-more o f i e at = ap (λ (x : Extent). runAfter (wordAt o f) (length f / 4) (endOf x)) at
@@ -185,12 +187,12 @@ module _ (o : Order) (f : List ℕ) (a : Accepted o f) where
   run-after (suc i) = omega (arith, run-after i, run-next i .from)
 
   -- each ends at an edge
-  pub run-edge : (i : ℕ) → Edge (wordAt o f) (length f / 4) (endOf (run o f i))
+  run-edge : (i : ℕ) → Edge (wordAt o f) (length f / 4) (endOf (run o f i))
   run-edge zero = inl run-first
   run-edge (suc i) = inr (run-next i .at .behind)
 
   -- the free stretches below the end of run m are the first m runs behind the directory, where each of those has words
-  pub runs-to : (m : ℕ) → ((i : ℕ) → i < m → 0 < run o f (suc i) .length)
+  runs-to : (m : ℕ) → ((i : ℕ) → i < m → 0 < run o f (suc i) .length)
       → stretchesTo (wordAt o f) (length f / 4) (endOf (run o f m)) ≡ listOf (λ i. run o f (suc i)) m
   unfolding linesOf listOf
   runs-to zero h =

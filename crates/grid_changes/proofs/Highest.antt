@@ -230,7 +230,7 @@ module _ (len : ℕ) (w : ℕ → ℕ) where
 -- ---- files that agree in what opening reads of a grid
 
 -- a grid where the words are the same is the same grid
-grid-same : (len : ℕ) (w v : ℕ → ℕ) (i : ℕ) → v 10 ≡ w 10 → SameAt w v i → ¬ (w i ≡ emptySlot) → GridAt len w (w i) → GridAt len v (v i)
+pub grid-same : (len : ℕ) (w v : ℕ → ℕ) (i : ℕ) → v 10 ≡ w 10 → SameAt w v i → ¬ (w i ≡ emptySlot) → GridAt len w (w i) → GridAt len v (v i)
 grid-same len w v i count s full g =
     rw (s .offset)
     (record {
@@ -243,7 +243,7 @@ grid-same len w v i count s full g =
     })
 
 -- it ends where it ended
-end-same : (w v : ℕ → ℕ) (i : ℕ) → SameAt w v i → ¬ (w i ≡ emptySlot) → gridEnd v (v i) ≡ gridEnd w (w i)
+pub end-same : (w v : ℕ → ℕ) (i : ℕ) → SameAt w v i → ¬ (w i ≡ emptySlot) → gridEnd v (v i) ≡ gridEnd w (w i)
 end-same w v i s full = rw (s .offset, s .size full)
 
 -- The words v have no grid that the words w have not, and each as w has it.

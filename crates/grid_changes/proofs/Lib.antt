@@ -1,4 +1,7 @@
 pub mod Words
 pub mod Highest
 pub mod Deleted
+pub mod GridBytes
+pub mod Addition
+pub mod Exact
 pub mod Worked

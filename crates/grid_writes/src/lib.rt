@@ -34,6 +34,7 @@ ghost use mir.Val.{ofZ};
 ghost use Rattle.endian.specs.Words.{wordAt};
 ghost use Rattle.endian.specs.Files.{bytesOf};
 ghost use Rattle.refusal.specs.Rules.{firstFault};
+ghost use Rattle.extents.specs.Stretches.{firstWord, highestEnd};
 ghost use Rattle.extents.specs.Steps.{Accepted, Slots};
 ghost use Rattle.grid_changes.specs.Changes.{deleteRules, addRules, lowestEmpty, gridBytes, gridPut, nextFreeSet};
 ghost use Rattle.grid_writes.specs.Writes.{deletionSays, additionSays, deleteStep, refusedPlan, addPlan, addStep, Ready};
@@ -61,9 +62,10 @@ pub struct Addition {
     pub count: usize,
 }
 
-// Sets the next free word to the end of the highest grid, or to 12 + n where there is none.
+// Sets the next free word to the end of the highest grid, or to 12 + n where there is none. The directory must be inside the file, and each grid, and the end must
+// be a signed word.
 fn set_next_free(file: &mut [u8], order: Order)
-    requires { ⌜ Slots (length (now file)) (wordAt order (now file)) ⌝ }
+    requires { ⌜ Slots (length (now file)) (wordAt order (now file)) × (highestEnd (wordAt order (now file)) (firstWord (wordAt order (now file))) (wordAt order (now file) 10) < 2147483648) ⌝ }
     ensures { λ _. ⌜ now (file .exit) ≡ nextFreeSet order (now (file .entry)) ⌝ }
 {
     let n = read_word(order, file, 10) as usize;
@@ -103,7 +105,8 @@ pub fn delete_in(file: &mut [u8], order: Order, number: u32, size: usize) -> Del
         Verdict::Pass => {
             write_number(order, 4, file, 4 * (10 + number as usize), EMPTY_SLOT);
             set_next_free(file, order);
-            let count = survey_free(file, order).count;
+            let stretches = survey_free(file, order);
+            let count = stretches.count;
             Deletion {
                 answer: SizeAnswer::Value(count),
                 count: count,
@@ -188,13 +191,15 @@ pub fn plan_add(
             match add_verdict(file, order, headers, rows, columns, values, size) {
                 Verdict::Fault(refusal) => refused(refusal),
                 Verdict::Pass => {
+                    let slot = lowest_empty(file, order);
                     let stretches = survey_free(file, order);
+                    let last = stretches.last;
                     AddPlan {
                         verdict: Verdict::Pass,
-                        number: lowest_empty(file, order) as u32 + 1,
+                        number: slot as u32 + 1,
                         need: 64 + rows as usize * columns as usize,
                         count: stretches.count - 1,
-                        last: stretches.last,
+                        last: last,
                     }
                 }
             }
@@ -267,17 +272,21 @@ pub fn add_at(
     requires { ⌜ Ready order (now file) (now header) rows columns (now values) size plan found ⌝ }
     ensures { λ r. ⌜ (additionSays r, now (file .exit)) ≡ addStep order (now (file .entry)) (now (header .entry)) rows columns (now (values .entry)) size ⌝ }
 {
-    match plan.verdict {
+    let verdict = plan.verdict;
+    match verdict {
         Verdict::Fault(refusal) => Addition {
             answer: AddAnswer::Refused(refusal),
             count: 0,
         },
         Verdict::Pass => {
-            let at = first_of(plan.need, found, plan.last).start;
+            let last = plan.last;
+            let room = first_of(plan.need, found, last);
+            let at = room.start;
             write_grid(file, order, header, rows, columns, values, at);
             write_number(order, 4, file, 4 * (10 + plan.number as usize), at as u32);
             set_next_free(file, order);
-            let count = survey_free(file, order).count;
+            let stretches = survey_free(file, order);
+            let count = stretches.count;
             Addition {
                 answer: AddAnswer::Done(Added {
                     number: plan.number,

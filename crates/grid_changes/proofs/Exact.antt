@@ -1,0 +1,257 @@
+-- When deleting and adding refuse: the order of the rules, "13 exactly if there's no empty slot, 14 exactly if no such address exists", and that a grid that was
+-- deleted leaves room for one of its rows and columns.
+-- Assumes nothing.
+use mathlib.Core.Path.{_≡_, refl, sym, ap, subst, _∙_}
+use mathlib.Core.Bool.{Bool, true, false, false≢true}
+use mathlib.Core.Logic.{_⊎_, inl, inr, ⊎-elim, _↔_}
+use mathlib.Core.List.{List, [], _∷_, _++_}
+use Prim.Native.Nat.{ℕ, _+_, _-_, _*_, _/_, _≤_, _<_}
+use native.Mathlib.Omega.{arith}
+use lib.Dec.{ltb, eqb}
+use lib.IntN.{ℤ}
+use lib.ListN.{length}
+use borrow.Author.Tests.{le-leb, lt-ltb, ltb-true, ltb-false, eqb-false, eq-eqb}
+use Rattle.lists.proofs.Lowest.{lowest-is}
+use Rattle.endian.specs.Words.{wordAt}
+use Rattle.endian.specs.declared.Order.{Order}
+use Rattle.refusal.specs.Rules.{Rule, rule, judge, first, firstFault, tabled, Hold}
+use Rattle.refusal.specs.Answers.{gives, refuses}
+use Rattle.refusal.specs.Tests.{within}
+use Rattle.refusal.specs.declared.Refusal.{Refusal}
+use Rattle.refusal.specs.declared.Verdict.{Verdict}
+use Rattle.refusal.specs.declared.Verdict.the-variants.{Pass, Fault}
+use Rattle.refusal.proofs.Answers.{gives-refuses, refuses-same}
+use Rattle.refusal.proofs.Exactness.{within-exactly}
+use Rattle.refusal.proofs.Tables.{fault-pass, hold-pass, pass-joined, also}
+use Rattle.grid_rules.specs.Rules.{emptySlot, isEmpty, gridEnd, fileRules, wantedRules}
+use Rattle.grid_rules.specs.Accepts.{Full, AcceptsFile}
+use Rattle.grid_rules.proofs.Slots.{number-slot, Misses}
+use Rattle.grid_rules.proofs.Acceptance.{GridAt, file-passes, slot-grid, number-grid, slots-apart}
+use Rattle.extents.specs.Rooms.{hasRoom}
+use Rattle.extents.specs.declared.Extent.{Extent}
+use Rattle.extents.proofs.Free.{fails, own-exactly}
+use Rattle.extents.proofs.Fit.{Fits, room-exactly}
+use Rattle.grid_changes.specs.Changes.{stretchesOf, tableRule, changed, deleteRules, withoutGrid, gridWords, lowestEmpty, addressFor, addRules, withGrid, added, addGrid}
+use Rattle.grid_changes.proofs.Deleted.{Deletes, delete-passes, deleted-length, deleted-accepted, deleted-words, deleted-count, deleted-slot, deleted-behind}
+use Rattle.grid_changes.proofs.Addition.{AddAsked, add-passes, slot-empty}
+
+-- ---- the order of the rules
+
+-- tables that are joined
+tabled-append : (rs ss : List Rule) → tabled (rs ++ ss) ≡ tabled rs ++ tabled ss
+unfolding tabled
+tabled-append [] ss = refl
+tabled-append (r ∷ rs) ss = ap (λ (l : List (ℕ × ℕ)). (r .number, r .place) ∷ l) (tabled-append rs ss)
+
+-- Document 02's order, numbers and places, of deleting: the file's rules; the table; the number; an empty slot.
+pub delete-order : (o : Order) (f : List ℕ) (number size : ℕ)
+    → tabled (deleteRules o f number size) ≡ tabled (fileRules (length f) (wordAt o f)) ++ (10, 0) ∷ (7, 0) ∷ (6, 0) ∷ []
+unfolding deleteRules wantedRules tabled
+delete-order o f number size = tabled-append (fileRules (length f) (wordAt o f)) _
+
+-- Of adding: the file's rules; the table; rows; columns; values; header; an empty slot; room.
+pub add-order : (o : Order) (f : List ℕ) (headers rows columns values size : ℕ)
+    → tabled (addRules o f headers rows columns values size)
+    ≡ tabled (fileRules (length f) (wordAt o f)) ++ (10, 0) ∷ (3, 0) ∷ (3, 0) ∷ (12, 0) ∷ (12, 0) ∷ (13, 0) ∷ (14, 0) ∷ []
+unfolding addRules tabled
+add-order o f headers rows columns values size = tabled-append (fileRules (length f) (wordAt o f)) _
+
+-- ---- the lowest empty slot
+
+-- no lower slot is empty
+slot-lower : (w : ℕ → ℕ) (j : ℕ) → j < lowestEmpty w → Full w j
+unfolding lowestEmpty
+slot-lower w j l = eqb-false (w (11 + j)) emptySlot (lowest-is (isEmpty w) 0 (w 10) .none j (omega arith) l)
+
+-- there is none exactly where every slot has a grid
+pub no-slot-exactly : (w : ℕ → ℕ) → (ltb (lowestEmpty w) (w 10) ≡ false) ↔ ((j : ℕ) → j < w 10 → Full w j)
+no-slot-exactly w = (
+  λ e j l. slot-lower w j (omega (arith, ltb-false (lowestEmpty w) (w 10) e, l)),
+  λ h. fails (own-exactly (ltb (lowestEmpty w) (w 10))) (λ e. let l = ltb-true (lowestEmpty w) (w 10) e in h (lowestEmpty w) l (slot-empty w l)),
+)
+
+-- where some slot is empty, there is one: it is empty, and no lower slot is
+pub slot-lowest : (w : ℕ → ℕ) (j : ℕ) → j < w 10 → w (11 + j) ≡ emptySlot
+    → (lowestEmpty w < w 10) × ((w (11 + lowestEmpty w) ≡ emptySlot) × ((i : ℕ) → i < lowestEmpty w → Full w i))
+slot-lowest w j l e =
+    let some : lowestEmpty w < w 10 = found (ltb (lowestEmpty w) (w 10)) refl in
+    (some, (slot-empty w some, slot-lower w))
+  where
+    found : (t : Bool) → ltb (lowestEmpty w) (w 10) ≡ t → lowestEmpty w < w 10
+    found true q = ltb-true (lowestEmpty w) (w 10) q
+    found false q = absurd (no-slot-exactly w .0 q j l e)
+
+-- ---- what adding refuses
+
+-- what either call refuses is the fault of its rules
+changed-fault : {Value : Type 0} (v : Verdict) (value : ℕ → Value) (o : Order) (f g : List ℕ) (t : List Extent) (r : Refusal)
+    → (changed v value o f g t .0 ≡ refuses (r .number) (r .place)) ↔ (v ≡ Fault r)
+changed-fault Pass value o f g t r = (λ e. gives-refuses e, λ e. fault-pass r (sym e))
+changed-fault (Fault s) value o f g t r = (λ e. ap Fault (refuses-same e), λ e. ap (λ (v : Verdict). changed v value o f g t .0) e)
+
+-- the rules of the slot and the room, of their tests
+abbrev lastRules : Bool → Bool → List Rule
+lastRules slot room = rule slot 13 0 ∷ rule room 14 0 ∷ []
+
+-- a refusal at place 0
+abbrev refusal : ℕ → Refusal
+refusal number = record { number = number; place = 0 }
+
+-- the number of a fault
+abbrev faultNumber : Verdict → ℕ
+faultNumber Pass = 0
+faultNumber (Fault r) = r .number
+
+-- the first of them fails exactly where 13 is given
+thirteen : (slot room : Bool) → (firstFault (lastRules slot room) ≡ Fault (refusal 13)) ↔ (slot ≡ false)
+unfolding firstFault judge first
+thirteen true true = (λ e. fault-pass (refusal 13) (sym e), λ e. absurd (false≢true (sym e)))
+thirteen true false = (λ e. let z : _≡_ {A = ℕ} 14 13 = ap faultNumber e in let y : ⊥ = omega (arith, z) in absurd y, λ e. absurd (false≢true (sym e)))
+thirteen false room = (λ e. refl, λ e. refl)
+
+-- where it holds, the second fails exactly where 14 is given
+fourteen : (slot room : Bool) → slot ≡ true → (firstFault (lastRules slot room) ≡ Fault (refusal 14)) ↔ (room ≡ false)
+unfolding firstFault judge first
+fourteen true true h = (λ e. fault-pass (refusal 14) (sym e), λ e. absurd (false≢true (sym e)))
+fourteen true false h = (λ e. refl, λ e. refl)
+fourteen false room h = absurd (false≢true h)
+
+-- where the rules before them hold, they decide
+add-decided : (o : Order) (f : List ℕ) (headers rows columns values size : ℕ) → AddAsked o f headers rows columns values size
+    → firstFault (addRules o f headers rows columns values size)
+    ≡ firstFault (lastRules (ltb (lowestEmpty (wordAt o f)) (wordAt o f 10)) (hasRoom (wordAt o f) (length f / 4) (gridWords rows columns)))
+unfolding addRules
+add-decided o f headers rows columns values size a =
+    let w : ℕ → ℕ = wordAt o f in
+    let last : List Rule = lastRules (ltb (lowestEmpty w) (w 10)) (hasRoom w (length f / 4) (gridWords rows columns)) in
+    let before : List Rule =
+    tableRule w size
+    ∷ rule (within 1 65535 rows) 3 0
+    ∷ rule (within 1 65535 columns) 3 0
+    ∷ rule (eqb values (rows * columns)) 12 0
+    ∷ rule (eqb headers 256) 12 0
+    ∷ [] in
+    let hold : Hold before =
+    also (le-leb (w 10 + 1) size (a .table))
+    (also (within-exactly 1 65535 rows .complete (a .some-rows))
+    (also (within-exactly 1 65535 columns .complete (a .some-columns))
+    (also (eq-eqb values (rows * columns) (a .all-values))
+    (also (eq-eqb headers 256 (a .whole-header))
+    tt)))) in
+    sym (pass-joined (fileRules (length f) w) (before ++ last) (a .accepted)) ∙ sym (pass-joined before last (hold-pass before hold))
+
+module _ (o : Order) (f header : List ℕ) (rows columns : ℕ) (values : List ℤ) (t : List Extent)
+    (asked : AddAsked o f (length header) rows columns (length values) (length t)) where
+  add-refused : (r : Refusal) → (addGrid o f header rows columns values t .0 ≡ refuses (r .number) (r .place))
+      ↔ (firstFault (lastRules (ltb (lowestEmpty (wordAt o f)) (wordAt o f 10)) (hasRoom (wordAt o f) (length f / 4) (gridWords rows columns))) ≡ Fault r)
+  unfolding addGrid
+  add-refused r =
+      let v : Verdict = firstFault (addRules o f (length header) rows columns (length values) (length t)) in
+      let x = changed-fault v (added o f rows columns) o f (withGrid o f header rows columns values) t r in
+      let e = add-decided o f (length header) rows columns (length values) (length t) asked in
+      (λ q. sym e ∙ x .0 q, λ q. x .1 (e ∙ q))
+
+  -- "13 exactly if there's no empty slot", where the rules before it hold
+  pub refuses-13 : (addGrid o f header rows columns values t .0 ≡ refuses 13 0) ↔ ((j : ℕ) → j < wordAt o f 10 → Full (wordAt o f) j)
+  refuses-13 =
+      let w : ℕ → ℕ = wordAt o f in
+      let x = thirteen (ltb (lowestEmpty w) (w 10)) (hasRoom w (length f / 4) (gridWords rows columns)) in
+      (λ e. no-slot-exactly w .0 (x .0 (add-refused (refusal 13) .0 e)), λ h. add-refused (refusal 13) .1 (x .1 (no-slot-exactly w .1 h)))
+
+  -- "14 exactly if no such address exists", where there is an empty slot besides: none from 12 + n on at which the grid's words lie inside the file and in no
+  -- grid, and end by 2,147,483,647
+  pub refuses-14 : (j : ℕ) → j < wordAt o f 10 → wordAt o f (11 + j) ≡ emptySlot
+      → (addGrid o f header rows columns values t .0 ≡ refuses 14 0) ↔ ((a : ℕ) → ¬ Fits (wordAt o f) (length f / 4) (gridWords rows columns) a)
+  refuses-14 j l empty =
+      let w : ℕ → ℕ = wordAt o f in
+      let some : ltb (lowestEmpty w) (w 10) ≡ true = lt-ltb (lowestEmpty w) (w 10) (slot-lowest w j l empty .0) in
+      let x = fourteen (ltb (lowestEmpty w) (w 10)) (hasRoom w (length f / 4) (gridWords rows columns)) some in
+      let room = room-exactly w (length f / 4) (gridWords rows columns) (omega arith) in (
+        λ e a fits. false≢true (sym (x .0 (add-refused (refusal 14) .0 e)) ∙ room .1 (a, fits)),
+        λ h.
+            add-refused (refusal 14) .1
+            (x .1 (fails (own-exactly (hasRoom w (length f / 4) (gridWords rows columns))) (λ e. let y = room .0 e in h (y .0) (y .1)))),
+      )
+
+-- ---- room for a grid where one was deleted
+
+module _ (o : Order) (f : List ℕ) (number size : ℕ) (pass : firstFault (deleteRules o f number size) ≡ Pass) where
+  d : Deletes o f number size
+  d = delete-passes o f number size .0 pass
+
+  file : AcceptsFile (length f) (wordAt o f)
+  file = file-passes (length f) (wordAt o f) .0 (d .accepted)
+
+  grid : GridAt (length f) (wordAt o f) (wordAt o f (10 + number))
+  grid = number-grid (length f) (wordAt o f) file number (d .from) (d .to) (d .full)
+
+  -- its slot, counted from 0
+  slot-is : wordAt o f (11 + (number - 1)) ≡ wordAt o f (10 + number)
+  slot-is = ap (wordAt o f) (number-slot number (d .from))
+
+  -- no grid that is left has a word of the deleted one
+  others-apart : (j : ℕ) → j < wordAt o f 10
+      → Misses (wordAt o (withoutGrid o f number)) (wordAt o f (10 + number)) (gridEnd (wordAt o f) (wordAt o f (10 + number))) j
+  others-apart j l full =
+      let v : ℕ → ℕ = wordAt o (withoutGrid o f number) in
+      let other : ¬ (11 + j ≡ 10 + number) = λ e. full (ap v e ∙ deleted-slot o f number size pass) in
+      let offset : v (11 + j) ≡ wordAt o f (11 + j) = deleted-words o f number size pass (11 + j) other (λ e. omega (arith, e, l)) in
+      let was : Full (wordAt o f) j = λ e. full (offset ∙ e) in
+      let first : v (v (11 + j)) ≡ wordAt o f (wordAt o f (11 + j)) =
+      ap v offset ∙ deleted-behind o f number size pass (wordAt o f (11 + j)) (slot-grid (length f) (wordAt o f) file j l was .after-directory) in
+      ⊎-elim (λ x. inl (omega (arith, x, offset, first, slot-is))) (λ x. inr (omega (arith, x, offset, ap (gridEnd (wordAt o f)) slot-is)))
+      (slots-apart (length f) (wordAt o f) file j (number - 1) l (omega (arith, d .from, d .to)) (λ e. other (omega (arith, e, d .from))) was
+      (λ e. d .full (sym slot-is ∙ e)))
+
+  module _ (rows columns : ℕ) (same-rows : rows ≡ wordAt o f (wordAt o f (10 + number) + 1)) (same-columns : columns ≡ wordAt o f (wordAt o f (10 + number) + 2)) where
+    size-is : wordAt o f (wordAt o f (10 + number)) ≡ rows * columns
+    size-is = rw (same-rows, same-columns) (grid .size)
+
+    -- a grid of the deleted one's rows and columns has room at its place
+    pub deleted-room : Fits (wordAt o (withoutGrid o f number)) (length (withoutGrid o f number) / 4) (gridWords rows columns) (wordAt o f (10 + number))
+    deleted-room =
+        let end : gridEnd (wordAt o f) (wordAt o f (10 + number)) ≡ wordAt o f (10 + number) + gridWords rows columns = omega (arith, size-is) in
+        record {
+          from = omega (arith, grid .after-directory, deleted-count o f number size pass);
+          inside = rw (deleted-length o f number) (omega (arith, grid .inside, end));
+          by-last = omega (arith, grid .small, end);
+          apart =
+              λ j l.
+              subst (λ (x : ℕ). Misses (wordAt o (withoutGrid o f number)) (wordAt o f (10 + number)) x j) end
+              (others-apart j (rw (deleted-count o f number size pass) at l));
+        }
+
+    -- so one can be added: neither 13 nor 14 comes
+    pub room-again : (headers values pairs : ℕ) → headers ≡ 256 → values ≡ rows * columns → wordAt o f 10 + 1 ≤ pairs
+        → firstFault (addRules o (withoutGrid o f number) headers rows columns values pairs) ≡ Pass
+    room-again headers values pairs whole all few =
+        let g : List ℕ = withoutGrid o f number in
+        let need : ℕ = gridWords rows columns in
+        let slot : wordAt o g (11 + (number - 1)) ≡ emptySlot =
+        ap (wordAt o g) (number-slot number (d .from)) ∙ deleted-slot o f number size pass in
+        add-passes o g headers rows columns values pairs .1
+        (record {
+          asked =
+              record {
+                accepted = deleted-accepted o f number size pass;
+                table = rw (deleted-count o f number size pass) few;
+                some-rows = rw same-rows (grid .rows);
+                some-columns = rw same-columns (grid .columns);
+                all-values = all;
+                whole-header = whole;
+              };
+          slot = slot-lowest (wordAt o g) (number - 1) (omega (arith, d .from, d .to, deleted-count o f number size pass)) slot .0;
+          room =
+              ltb-true (addressFor o g need) (length g / 4)
+              (room-exactly (wordAt o g) (length g / 4) need (omega arith) .1 (wordAt o f (10 + number), deleted-room));
+        })
+
+    -- and the answer is the added grid
+    pub adds-again : (header : List ℕ) (values : List ℤ) (t : List Extent) → length header ≡ 256 → length values ≡ rows * columns → wordAt o f 10 + 1 ≤ length t
+        → addGrid o (withoutGrid o f number) header rows columns values t .0
+        ≡ gives (added o (withoutGrid o f number) rows columns (length (stretchesOf o (withGrid o (withoutGrid o f number) header rows columns values))))
+    unfolding addGrid
+    adds-again header values t whole all few =
+        let g : List ℕ = withoutGrid o f number in
+        ap (λ (v : Verdict). changed v (added o g rows columns) o g (withGrid o g header rows columns values) t .0)
+        (room-again (length header) (length values) (length t) whole all few)
