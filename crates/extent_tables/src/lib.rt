@@ -7,17 +7,16 @@ use extents::directory;
 use extents::first_of;
 use extents::run_after;
 ghost use mathlib.Core.Path.{_≡_};
-ghost use Prim.Native.Nat.{suc, _≤_, _<_};
+ghost use Prim.Native.Nat.{_≤_, _<_};
 ghost use lib.ListN.{length};
-ghost use Rattle.lists.specs.Lists.{listOf, over};
 ghost use Rattle.extents.specs.Rooms.{searched};
-ghost use Rattle.extents.specs.Steps.{Accepted, run};
+ghost use Rattle.extents.specs.Steps.{Accepted, runsOver, searchedOver};
 
 // Fills the first places of a table with the first free stretches of a file, in address order; places past them stay. The caller must make sure that the table
 // has so many places, and that the file is accepted unless there are none to fill.
 pub fn fill<'t, 'f>(table: &'t mut [Extent], file: &'f [u8], order: Order, count: usize)
     requires { ⌜ (count ≤ length (now table)) × (0 < count → Accepted order (now file)) ⌝ }
-    ensures { λ _. ⌜ now (table .exit) ≡ over (listOf (λ i. run order (now (file .entry)) (suc i)) count) (now (table .entry)) ⌝ }
+    ensures { λ _. ⌜ now (table .exit) ≡ runsOver order (now (file .entry)) count (now (table .entry)) ⌝ }
 {
     let mut e = directory(file, order);
     let mut i: usize = 0;
@@ -47,9 +46,15 @@ pub fn first_fit(table: &[Extent], count: usize, need: usize) -> Extent
 }
 
 // Fills a table as `fill` does, and searches it as `first_fit` does.
-pub fn search<'t, 'f>(table: &'t mut [Extent], file: &'f [u8], order: Order, count: usize, need: usize) -> Extent
+pub fn search<'t, 'f>(
+    table: &'t mut [Extent],
+    file: &'f [u8],
+    order: Order,
+    count: usize,
+    need: usize,
+) -> Extent
     requires { ⌜ (count ≤ length (now table)) × (0 < count → Accepted order (now file)) ⌝ }
-    ensures { λ r. ⌜ (r, now (table .exit)) ≡ (searched (now (table .exit)) need count, over (listOf (λ i. run order (now (file .entry)) (suc i)) count) (now (table .entry))) ⌝ }
+    ensures { λ r. ⌜ (r, now (table .exit)) ≡ searchedOver order (now (file .entry)) count need (now (table .entry)) ⌝ }
 {
     fill(table, file, order, count);
     first_fit(table, count, need)

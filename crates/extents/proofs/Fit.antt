@@ -181,6 +181,14 @@ module _ (o : Order) (f : List ℕ) (a : Accepted o f) (need : ℕ) (some : 1 �
               (λ lt. false≢true (sym (none (y .0) lt) ∙ y .1 .1 .1))
               (eq-or-lt-of-le (le-of-suc-le-suc (y .1 .0)))
 
+  -- and where there is one, there is a free stretch
+  pub room-some : hasRoom (wordAt o f) (length f / 4) need ≡ true → 1 ≤ length (freeStretches (wordAt o f) (length f / 4))
+  room-some room = step (decLt 0 (length (freeStretches (wordAt o f) (length f / 4))))
+    where
+      step : Dec (0 < length (freeStretches (wordAt o f) (length f / 4))) → 1 ≤ length (freeStretches (wordAt o f) (length f / 4))
+      step (yes l) = omega (arith, l)
+      step (no h) = absurd (false≢true (sym (fits-none (λ i l. let z : ⊥ = omega (arith, h, l) in absurd z)) ∙ room))
+
 -- ---- the search
 
 -- What a search of the extents r 0, r 1 and so on, i of them, has found: nothing, where the words fit into none of them, or else the first into which

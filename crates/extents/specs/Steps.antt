@@ -6,6 +6,7 @@ use Prim.Native.Nat.{ℕ, zero, suc, _+_, _-_, _/_, _≤_, _<_}
 use lib.Dec.{leb, ltb}
 use lib.ListN.{length}
 use Rattle.lists.specs.Choices.{pick, both}
+use Rattle.lists.specs.Lists.{listOf, over}
 use Rattle.endian.specs.Words.{wordAt}
 use Rattle.endian.specs.declared.Order.{Order}
 use Rattle.refusal.specs.Rules.{firstFault}
@@ -13,6 +14,7 @@ use Rattle.refusal.specs.declared.Verdict.the-variants.{Pass}
 use Rattle.grid_rules.specs.Rules.{gridEnd, fileRules}
 use Rattle.grid_rules.specs.Accepts.{Full}
 use Rattle.extents.specs.Stretches.{extent, none, endOf, slotExtent, lowestFree, firstWord, runFrom, freeStretches}
+use Rattle.extents.specs.Rooms.{searched}
 use Rattle.extents.specs.declared.Extent.{Extent}
 use Rattle.extents.specs.declared.Survey.{Survey}
 
@@ -51,6 +53,14 @@ directory o f = pick (leb 44 (length f)) (extent 0 (firstWord (wordAt o f))) non
 unfoldable pub run : Order → List ℕ → ℕ → Extent
 run o f zero = directory o f
 run o f (suc i) = runAfter (wordAt o f) (length f / 4) (endOf (run o f i))
+
+-- a table whose first places hold the first `count` runs behind the directory
+abbrev pub runsOver : Order → List ℕ → ℕ → List Extent → List Extent
+runsOver o f count t = over (listOf (λ i. run o f (suc i)) count) t
+
+-- what a search of these for so many words finds, and the table
+abbrev pub searchedOver : Order → List ℕ → ℕ → ℕ → List Extent → Extent × List Extent
+searchedOver o f count need t = (searched (runsOver o f count t) need count, runsOver o f count t)
 
 -- how many free stretches a file has, and the last of them; the directory where there is none
 unfoldable pub survey : Order → List ℕ → Survey

@@ -41,7 +41,7 @@ use Rattle.extents.specs.Stretches.{firstWord, highestEnd, isFree, starts}
 use Rattle.extents.specs.Steps.{Accepted, Slots}
 use Rattle.extents.proofs.Free.{fails, own-exactly, none-has-exactly, free-word, starts-exactly}
 use Rattle.extents.proofs.Fit.{Fits, lowest-address}
-use Rattle.grid_changes.specs.Changes.{setWord, tableRule, gridWords, lowestEmpty, addressFor, addRules, gridBytes, gridPut, withGrid}
+use Rattle.grid_changes.specs.Changes.{setWord, gridWords, lowestEmpty, addressFor, addOwn, addRules, gridBytes, gridPut, withGrid}
 use Rattle.grid_changes.proofs.Words.{set-length, set-here, set-other, set-byte, put-here, put-other, put-byte}
 use Rattle.grid_changes.proofs.Highest.{Laid, HighestIs, grid-same, end-same, laid-slots, laid-highest, next-length, next-other, next-byte, laid-accepted, next-word, next-highest, accepted-laid, open-alike}
 use Rattle.grid_changes.proofs.GridBytes.{grid-length, size-word, rows-word, columns-word, header-byte, value-word}
@@ -70,15 +70,7 @@ unfolding addRules
 add-passes o f headers rows columns values size =
     let w : ℕ → ℕ = wordAt o f in
     let file : List Rule = fileRules (length f) w in
-    let rest : List Rule =
-    tableRule w size
-    ∷ rule (within 1 65535 rows) 3 0
-    ∷ rule (within 1 65535 columns) 3 0
-    ∷ rule (eqb values (rows * columns)) 12 0
-    ∷ rule (eqb headers 256) 12 0
-    ∷ rule (ltb (lowestEmpty w) (w 10)) 13 0
-    ∷ rule (ltb (addressFor o f (gridWords rows columns)) (length f / 4)) 14 0
-    ∷ [] in
+    let rest : List Rule = addOwn o f headers rows columns values size in
     let parts = hold-append file rest in
     let table = le-exactly (w 10 + 1) size in
     let row = within-exactly 1 65535 rows in

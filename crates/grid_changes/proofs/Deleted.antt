@@ -24,7 +24,7 @@ use Rattle.grid_rules.specs.Opening.{openWanted, openGrid}
 use Rattle.grid_rules.proofs.Acceptance.{GridAt, number-grid, file-passes, open-split}
 use Rattle.extents.specs.Stretches.{highestEnd, firstWord}
 use Rattle.extents.specs.Steps.{Accepted, Slots}
-use Rattle.grid_changes.specs.Changes.{setWord, tableRule, deleteRules, withoutGrid}
+use Rattle.grid_changes.specs.Changes.{setWord, deleteOwn, deleteRules, withoutGrid}
 use Rattle.grid_changes.proofs.Words.{set-length, set-here, set-other, set-byte}
 use Rattle.grid_changes.proofs.Highest.{HighestIs, Laid, Fewer, laid-slots, laid-highest, laid-fewer, next-length, next-other, next-byte, next-word, next-highest, laid-accepted, accepted-laid, open-alike}
 
@@ -44,7 +44,7 @@ unfolding deleteRules wantedRules
 delete-passes o f number size =
     let w : ℕ → ℕ = wordAt o f in
     let file : List Rule = fileRules (length f) w in
-    let rest : List Rule = tableRule w size ∷ wantedRules w number in
+    let rest : List Rule = deleteOwn w number size in
     let table = le-exactly (w 10 + 1) size in
     let range = within-exactly 1 (w 10) number in
     let full = not-exactly (eq-exactly (w (10 + number)) emptySlot) in (

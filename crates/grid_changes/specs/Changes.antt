@@ -57,9 +57,13 @@ changed (Fault r) value o f g t = (refuses (r .number) (r .place), (f, t))
 
 -- ---- deleting
 
--- "Refusals, after 1 to 5 on the file: 10 for a table of fewer than n+1 pairs; then delete 7, 6", for a table of `size` pairs
+-- "10 for a table of fewer than n+1 pairs; then delete 7, 6", for a table of `size` pairs
+abbrev pub deleteOwn : (ℕ → ℕ) → ℕ → ℕ → List Rule
+deleteOwn w number size = tableRule w size ∷ wantedRules w number
+
+-- "Refusals, after 1 to 5 on the file"
 unfoldable pub deleteRules : Order → List ℕ → ℕ → ℕ → List Rule
-deleteRules o f number size = fileRules (length f) (wordAt o f) ++ tableRule (wordAt o f) size ∷ wantedRules (wordAt o f) number
+deleteRules o f number size = fileRules (length f) (wordAt o f) ++ deleteOwn (wordAt o f) number size
 
 -- "Deleting sets the slot to -1."
 unfoldable pub withoutGrid : Order → List ℕ → ℕ → List ℕ
@@ -85,10 +89,9 @@ addressFor o f need = lowestAddress (wordAt o f) (length f / 4) need
 
 -- "10 for a table of fewer than n+1 pairs; add, in this order, 3 for rows or columns (place 0), 12 for values or header of the wrong length, 13 exactly if
 -- there's no empty slot, 14 exactly if no such address exists", for so many header bytes and values, and a table of `size` pairs
-unfoldable pub addRules : Order → List ℕ → ℕ → ℕ → ℕ → ℕ → ℕ → List Rule
-addRules o f headers rows columns values size =
-    fileRules (length f) (wordAt o f)
-    ++ tableRule (wordAt o f) size
+abbrev pub addOwn : Order → List ℕ → ℕ → ℕ → ℕ → ℕ → ℕ → List Rule
+addOwn o f headers rows columns values size =
+    tableRule (wordAt o f) size
     ∷ rule (within 1 65535 rows) 3 0
     ∷ rule (within 1 65535 columns) 3 0
     ∷ rule (eqb values (rows * columns)) 12 0
@@ -96,6 +99,10 @@ addRules o f headers rows columns values size =
     ∷ rule (ltb (lowestEmpty (wordAt o f)) (wordAt o f 10)) 13 0
     ∷ rule (ltb (addressFor o f (gridWords rows columns)) (length f / 4)) 14 0
     ∷ []
+
+-- "Refusals, after 1 to 5 on the file"
+unfoldable pub addRules : Order → List ℕ → ℕ → ℕ → ℕ → ℕ → ℕ → List Rule
+addRules o f headers rows columns values size = fileRules (length f) (wordAt o f) ++ addOwn o f headers rows columns values size
 
 -- a grid's bytes: "a header of 256 bytes as they go into the file", of which "words 1 to 3 are written from rows, columns and their product", and "values by
 -- columns"

@@ -1,6 +1,6 @@
 -- The rules of deleting and adding a grid, as the functions apply them: those of the file first.
 -- Assumes nothing.
-use mathlib.Core.Path.{_≡_, refl, sym, ap, _∙_}
+use mathlib.Core.Path.{_≡_, refl, _∙_}
 use mathlib.Core.Bool.{not}
 use mathlib.Core.List.{List, [], _∷_}
 use Prim.Native.Nat.{ℕ, _+_}
@@ -9,14 +9,17 @@ use lib.ListN.{length}
 use Rattle.endian.specs.Words.{wordAt}
 use Rattle.endian.specs.declared.Order.{Order}
 use Rattle.refusal.specs.Rules.{Rule, rule, judge, first, firstFault, chained}
+use Rattle.refusal.specs.Answers.{gives, refuses}
 use Rattle.refusal.specs.Tests.{within}
 use Rattle.refusal.specs.declared.Refusal.{Refusal}
 use Rattle.refusal.specs.declared.Verdict.{Verdict}
 use Rattle.refusal.specs.declared.Verdict.the-variants.{Pass, Fault}
-use Rattle.refusal.proofs.Tables.{first-pass, joined, fault-joined, pass-joined, by-table}
+use Rattle.refusal.proofs.Tables.{fault-joined, pass-joined, by-table}
 use Rattle.grid_rules.specs.Rules.{emptySlot, fileRules, wantedRules}
-use Rattle.extents.specs.Steps.{Accepted}
-use Rattle.grid_changes.specs.Changes.{tableRule, deleteRules, addRules}
+use Rattle.extents.specs.Steps.{Accepted, survey}
+use Rattle.extents.specs.declared.Survey.{Survey}
+use Rattle.grid_changes.specs.Changes.{tableRule, deleteOwn, deleteRules, addOwn, addRules}
+use Rattle.grid_writes.specs.Writes.{stepped}
 
 -- ---- deleting
 
@@ -32,7 +35,7 @@ module _ (o : Order) (f : List ℕ) (number size : ℕ) where
   -- a fault of the file
   pub delete-file : (r : Refusal) → firstFault (fileRules (length f) (wordAt o f)) ≡ Fault r → Fault r ≡ firstFault (deleteRules o f number size)
   unfolding deleteRules
-  delete-file r e = fault-joined (fileRules (length f) (wordAt o f)) (tableRule (wordAt o f) size ∷ wantedRules (wordAt o f) number) r e
+  delete-file r e = fault-joined (fileRules (length f) (wordAt o f)) (deleteOwn (wordAt o f) number size) r e
 
   -- of an accepted file, a fault of the rules before the last
   pub delete-heads : Accepted o f → (r : Refusal) → firstFault (heads (wordAt o f) number size) ≡ Fault r
@@ -40,7 +43,7 @@ module _ (o : Order) (f : List ℕ) (number size : ℕ) where
   unfolding deleteRules wantedRules
   delete-heads a r e =
       fault-joined (heads (wordAt o f) number size) (slotRule (wordAt o f) number ∷ []) r e
-      ∙ pass-joined (fileRules (length f) (wordAt o f)) (tableRule (wordAt o f) size ∷ wantedRules (wordAt o f) number) a
+      ∙ pass-joined (fileRules (length f) (wordAt o f)) (deleteOwn (wordAt o f) number size) a
 
   -- or what the last says
   pub delete-slot : Accepted o f → firstFault (heads (wordAt o f) number size) ≡ Pass
@@ -49,4 +52,30 @@ module _ (o : Order) (f : List ℕ) (number size : ℕ) where
   delete-slot a e =
       by-table (slotRule (wordAt o f) number ∷ []) refl
       ∙ pass-joined (heads (wordAt o f) number size) (slotRule (wordAt o f) number ∷ []) e
-      ∙ pass-joined (fileRules (length f) (wordAt o f)) (tableRule (wordAt o f) size ∷ wantedRules (wordAt o f) number) a
+      ∙ pass-joined (fileRules (length f) (wordAt o f)) (deleteOwn (wordAt o f) number size) a
+
+-- ---- adding
+
+module _ (o : Order) (f : List ℕ) (headers rows columns values size : ℕ) where
+  -- a fault of the file
+  pub add-file : (r : Refusal) → firstFault (fileRules (length f) (wordAt o f)) ≡ Fault r
+      → Fault r ≡ firstFault (addRules o f headers rows columns values size)
+  unfolding addRules
+  add-file r e = fault-joined (fileRules (length f) (wordAt o f)) (addOwn o f headers rows columns values size) r e
+
+  -- of an accepted file, what the others say
+  pub add-own : Accepted o f → firstFault (addOwn o f headers rows columns values size) ≡ firstFault (addRules o f headers rows columns values size)
+  unfolding addRules
+  add-own a = pass-joined (fileRules (length f) (wordAt o f)) (addOwn o f headers rows columns values size) a
+
+-- ---- what a call leaves, by the verdict of its rules
+
+module _ {Value : Type 0} (v : Verdict) (value : ℕ → Value) (o : Order) (f g : List ℕ) where
+  -- where they pass, for the survey of the changed file
+  pub step-pass : v ≡ Pass → (h : List ℕ) → h ≡ g → (s : Survey) → s ≡ survey o h → ((gives (value (s .count)), s .count), h) ≡ stepped v value o f g
+  unfolding survey
+  step-pass e h is s surveyed = rw (e, surveyed, is)
+
+  -- and where they do not
+  pub step-fault : (r : Refusal) → v ≡ Fault r → ((refuses (r .number) (r .place), 0), f) ≡ stepped v value o f g
+  step-fault r e = rw e
