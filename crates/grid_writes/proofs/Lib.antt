@@ -1,1 +1,3 @@
 pub mod Verdicts
+pub mod Plans
+pub mod Bytes

@@ -47,12 +47,12 @@ use Rattle.endian.proofs.Order as O
 use Rattle.endian.proofs.Order.Laws as O′
 use Rattle.extents.specs.declared.Extent.{Extent}
 use Rattle.extents.specs.Rooms.{searched}
-use Rattle.extents.specs.Steps.{Accepted}
+use Rattle.extents.specs.Steps.{Accepted, runsOver}
 use Rattle.extents.proofs.Extent as X
 use Rattle.extent_tables.proofs.Again.{LentAgain, lends-again, closes-as, comes-back}
 use Rattle.extent_tables.proofs.Answers.{answered}
 use Rattle.extent_tables.proofs.Extents.{value, values, tells, lawful, makes, ToldExtent, order-value, file-slot, order-slot, size-slot}
-use Rattle.extent_tables.proofs.Filling.{filled, After, asks-fill}
+use Rattle.extent_tables.proofs.Filling.{After, asks-fill}
 use Rattle.extent_tables.proofs.Locals.{env, holds, cell, starts, frees-all, at}
 use Rattle.extent_tables.proofs.Proved.{proved}
 use Rattle.extent_tables.proofs.fill as fill
@@ -150,7 +150,7 @@ module _ {M : Type 1} (𝓤 : URA M) (H : Heap 𝓤) (A : Atoms 𝓤) (W : Given
         nothing ! $ move ! (2 ∷ 0 ∷ []) $ join ! $ frame ! $ nothing ! $ owned ! usize (Is usize) (uint-makes 𝓤 H A W w64) need _ (refl, need-fits) $ fjoin ! $
         owned ! usize (Is usize) (uint-makes 𝓤 H A W w64) n _ (refl, n-fits) $ fjoin ! $ move ! (1 ∷ 0 ∷ []) $ fjoin ! $ frame ! $ done !
 
-  exits : (zs : List Extent) → zs ≡ filled order (now file) n ys → length zs ≡ length ys → Is X.the-row (searched zs need n) (values (searched zs need n))
+  exits : (zs : List Extent) → zs ≡ runsOver order (now file) n ys → length zs ≡ length ys → Is X.the-row (searched zs need n) (values (searched zs need n))
       → ent 𝓤 (⋆ 𝓤 H A (‵ (Own κ γ zs) ∷ ‵ (flft κ q) ∷ ‵ ftrue ∷ ‵ ftrue ∷ TokF ∷ [])) (Post (value (searched zs need n)))
   exits zs eq len is =
       qed W (‵ (Own κ γ zs) ∷ ‵ (flft κ q) ∷ ‵ ftrue ∷ ‵ ftrue ∷ TokF ∷ []) ∵

@@ -9,7 +9,8 @@ use borrow.Author.Needs.{needs}
 use Rattle.refusal.specs.Rules.{chained}
 use Rattle.refusal.proofs.Tables.{by-table}
 use Rattle.extents.proofs.Slots.{accepted-slots}
-use Rattle.grid_writes.proofs.Verdicts.{addOwn, add-own}
+use Rattle.grid_changes.specs.Changes.{addOwn}
+use Rattle.grid_writes.proofs.Verdicts.{add-own}
 use Rattle.grid_writes.proofs.add_verdict.Statement.{statement}
 use Rattle.grid_writes.proofs.add_verdict.Tie as tie
 

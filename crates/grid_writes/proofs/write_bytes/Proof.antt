@@ -1,49 +1,56 @@
+-- `grid_writes::write_bytes` meets its contract: after i turns the first i bytes are stored.
+-- Assumes nothing.
+use mathlib.Core.Path.{_≡_, refl, sym, ap, subst, _∙_}
+use Prim.Native.Nat.{ℕ, _+_, _-_, _≤_, _<_}
+use native.Mathlib.Omega.{arith}
+use lib.ListN.{length, take}
+use lib.Seq.{sets, length-sets, take-all}
+use denote.Ref.{now}
+use Rattle.grid_writes.proofs.Bytes.{element-behind}
 use Rattle.grid_writes.proofs.write_bytes.Statement.{statement}
 use Rattle.grid_writes.proofs.write_bytes.Tie as tie
-use Rattle.grid_writes.proofs.write_bytes.Reads as reads
-use Rattle.grid_writes.proofs.write_bytes.Lts as lts
 
 abbrev Inv-loop : tie.InvT-loop
-Inv-loop file₀ at bytes n i₀ file i = ?
+Inv-loop file₀ at bytes n i₀ file i = file ≡ sets file₀ at (take i bytes)
 
 abbrev μ-loop : tie.MeasureT-loop
-μ-loop file₀ at bytes n i₀ file i = ?
+μ-loop file₀ at bytes n i₀ file i = n - i
 
--- src/lib.rt:212:5
 loop-holds : tie.Need-loop-holds Inv-loop μ-loop
-loop-holds c = ?
+loop-holds c = refl
 
--- src/lib.rt:213:24
 shared-slice-read-file : tie.Need-shared-slice-read-file Inv-loop μ-loop
-shared-slice-read-file c = ?
+shared-slice-read-file c = omega arith
 
--- src/lib.rt:213:14
 add-file : tie.Need-add-file Inv-loop μ-loop
-add-file c = ?
+add-file c = omega arith
 
--- src/lib.rt:213:9
 slice-write-file : tie.Need-slice-write-file Inv-loop μ-loop
-slice-write-file c = ?
+slice-write-file c = 
+    let a = c .before .before .before .args in
+    let i = c .before .before .loop in
+    omega (arith, ap length (i .inv) ∙ length-sets (a .file .now) (a .at) (take (i .i) (a .bytes .now)))
 
--- src/lib.rt:214:9
 add-i : tie.Need-add-i Inv-loop μ-loop
-add-i c = ?
+add-i c = omega arith
 
--- src/lib.rt:212:5
 loop-less : tie.Need-loop-less Inv-loop μ-loop
-loop-less c = ?
+loop-less c = omega arith
 
--- src/lib.rt:212:5
 loop-again : tie.Need-loop-again Inv-loop μ-loop
-loop-again c = ?
+loop-again c = 
+    let a = c .before .before .before .args in
+    let i = c .before .before .loop in
+    element-behind (a .file .now) (a .at) (a .bytes .now) (i .i) 0 (c .before .loop-test .taken) (i .inv) refl
 
--- src/lib.rt:206:1
 same-length : tie.Need-same-length Inv-loop μ-loop
-same-length c = ?
+same-length c = ap length (c .before .loop .inv) ∙ simp length-sets
 
--- src/lib.rt:206:1
 returns : tie.Need-returns Inv-loop μ-loop
-returns c = ?
+returns c = 
+    let a = c .before .before .args in
+    let i = c .before .loop in
+    i .inv ∙ ap (sets (a .file .now) (a .at)) (take-all (i .i) (a .bytes .now) (c .loop-test .left))
 
 pub write-bytes-spec : {M : Type 1} → statement M
 write-bytes-spec =
