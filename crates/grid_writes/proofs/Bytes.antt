@@ -22,7 +22,7 @@ use Rattle.grid_changes.proofs.GridBytes.{length-bytesOf}
 
 module _ {A : Type 0} (l : List A) (a : ℕ) {g h : List A} where
   -- a run b of n elements, and a run c behind it, are one run
-  pub stored-behind : (b c : List A) (n : ℕ) → g ≡ sets l a b → h ≡ sets g (a + n) c → length b ≡ n → h ≡ sets l a (b ++ c)
+  stored-behind : (b c : List A) (n : ℕ) → g ≡ sets l a b → h ≡ sets g (a + n) c → length b ≡ n → h ≡ sets l a (b ++ c)
   stored-behind b c n before e long =
       e
       ∙ ap (λ (k : List A). sets k (a + n) c) before
@@ -45,12 +45,17 @@ bytes-more o (n ∷ ns) m = append-assoc (encode o 4 n) (bytesOf o ns) (encode o
 
 module _ (o : Order) (f : List ℕ) (at : ℕ) {g h : List ℕ} where
   -- words, and one word behind them
-  pub word-behind : (ns : List ℕ) (m k : ℕ) → length ns ≡ k → g ≡ sets f at (bytesOf o ns) → h ≡ sets g (at + 4 * k) (encode o 4 m) → h ≡ sets f at (bytesOf o (ns ++ m ∷ []))
-  word-behind ns m k long before e = stored-behind f at (bytesOf o ns) (encode o 4 m) (4 * k) before e (length-bytesOf o ns ∙ ap (λ (j : ℕ). 4 * j) long) ∙ ap (sets f at) (bytes-more o ns m)
+  word-behind : (ns : List ℕ) (m k : ℕ) → length ns ≡ k
+      → g ≡ sets f at (bytesOf o ns) → h ≡ sets g (at + 4 * k) (encode o 4 m) → h ≡ sets f at (bytesOf o (ns ++ m ∷ []))
+  word-behind ns m k long before e =
+      stored-behind f at (bytesOf o ns) (encode o 4 m) (4 * k) before e (length-bytesOf o ns ∙ ap (λ (j : ℕ). 4 * j) long)
+      ∙ ap (sets f at) (bytes-more o ns m)
 
   -- the first i signed words of a list, and word i
   pub signed-behind : (vs : List ℤ) (i : ℕ) (d : ℤ) → i < length vs
-      → g ≡ sets f at (bytesOf o (map (ofZ w32) (take i vs))) → h ≡ sets g (at + 4 * i) (encodeSigned o (getD vs i d)) → h ≡ sets f at (bytesOf o (map (ofZ w32) (take (i + 1) vs)))
+      → g ≡ sets f at (bytesOf o (map (ofZ w32) (take i vs)))
+      → h ≡ sets g (at + 4 * i) (encodeSigned o (getD vs i d))
+      → h ≡ sets f at (bytesOf o (map (ofZ w32) (take (i + 1) vs)))
   signed-behind vs i d here before e =
       word-behind (map (ofZ w32) (take i vs)) (ofZ w32 (getD vs i d)) i (length-map (take i vs) (ofZ w32) ∙ length-take-le i vs (omega (arith, here))) before e
       ∙ ap (λ (ns : List ℕ). sets f at (bytesOf o ns)) (sym (map-append (ofZ w32) (take i vs) (getD vs i d ∷ [])))

@@ -6,7 +6,9 @@ use Prim.Native.Nat.{ℕ, _+_, _-_, _*_, _/_, _≤_, _<_}
 use native.Mathlib.Omega.{arith}
 use lib.IntN.{ℤ}
 use lib.ListN.{length}
+use lib.Seq.{sets}
 use borrow.Author.Tests.{lt-ltb}
+use Rattle.endian.specs.Numbers.{encode}
 use Rattle.endian.specs.Words.{wordAt}
 use Rattle.endian.specs.declared.Order.{Order}
 use Rattle.refusal.specs.Rules.{firstFault}
@@ -18,7 +20,7 @@ use Rattle.extents.specs.Steps.{survey}
 use Rattle.extents.specs.declared.Extent.{Extent}
 use Rattle.extents.specs.declared.Survey.{Survey}
 use Rattle.extents.proofs.Fit.{room-some}
-use Rattle.grid_changes.specs.Changes.{stretchesOf, gridWords, lowestEmpty, addressFor, addRules}
+use Rattle.grid_changes.specs.Changes.{setWord, stretchesOf, gridWords, lowestEmpty, addressFor, addRules, added}
 use Rattle.grid_changes.proofs.Addition.{AddPasses, add-passes}
 use Rattle.grid_writes.specs.Writes.{refusedPlan, planned, addPlan, Ready}
 use Rattle.grid_writes.specs.declared.AddPlan.{AddPlan}
@@ -55,3 +57,13 @@ module _ (o : Order) (f : List ℕ) (headers rows columns values size : ℕ) whe
   pass-some e =
       let p : AddPasses o f headers rows columns values size = add-passes o f headers rows columns values size .0 e in
       room-some o f (p .asked .accepted) (gridWords rows columns) (omega arith) (lt-ltb (addressFor o f (gridWords rows columns)) (length f / 4) (p .room))
+
+-- a word that is written is a word that is set
+pub set-as : (o : Order) (f g : List ℕ) (k l a b : ℕ) → f ≡ g → k ≡ l → a ≡ b → sets f (4 * k) (encode o 4 a) ≡ setWord o g l b
+unfolding setWord
+set-as o f g k l a b p q r = rw (p, q, r)
+
+-- what is answered
+pub added-is : (o : Order) (f : List ℕ) (rows columns count number address : ℕ) → number ≡ lowestEmpty (wordAt o f) + 1
+    → address ≡ addressFor o f (gridWords rows columns) → record { number = number; address = address; stretches = count } ≡ added o f rows columns count
+added-is o f rows columns count number address p q = rw (p, q)

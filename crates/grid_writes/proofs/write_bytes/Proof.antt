@@ -1,11 +1,10 @@
 -- `grid_writes::write_bytes` meets its contract: after i turns the first i bytes are stored.
 -- Assumes nothing.
-use mathlib.Core.Path.{_≡_, refl, sym, ap, subst, _∙_}
-use Prim.Native.Nat.{ℕ, _+_, _-_, _≤_, _<_}
+use mathlib.Core.Path.{_≡_, refl, ap, _∙_}
+use Prim.Native.Nat.{_-_}
 use native.Mathlib.Omega.{arith}
 use lib.ListN.{length, take}
 use lib.Seq.{sets, length-sets, take-all}
-use denote.Ref.{now}
 use Rattle.grid_writes.proofs.Bytes.{element-behind}
 use Rattle.grid_writes.proofs.write_bytes.Statement.{statement}
 use Rattle.grid_writes.proofs.write_bytes.Tie as tie
@@ -26,7 +25,7 @@ add-file : tie.Need-add-file Inv-loop μ-loop
 add-file c = omega arith
 
 slice-write-file : tie.Need-slice-write-file Inv-loop μ-loop
-slice-write-file c = 
+slice-write-file c =
     let a = c .before .before .before .args in
     let i = c .before .before .loop in
     omega (arith, ap length (i .inv) ∙ length-sets (a .file .now) (a .at) (take (i .i) (a .bytes .now)))
@@ -38,7 +37,7 @@ loop-less : tie.Need-loop-less Inv-loop μ-loop
 loop-less c = omega arith
 
 loop-again : tie.Need-loop-again Inv-loop μ-loop
-loop-again c = 
+loop-again c =
     let a = c .before .before .before .args in
     let i = c .before .before .loop in
     element-behind (a .file .now) (a .at) (a .bytes .now) (i .i) 0 (c .before .loop-test .taken) (i .inv) refl
@@ -47,7 +46,7 @@ same-length : tie.Need-same-length Inv-loop μ-loop
 same-length c = ap length (c .before .loop .inv) ∙ simp length-sets
 
 returns : tie.Need-returns Inv-loop μ-loop
-returns c = 
+returns c =
     let a = c .before .before .args in
     let i = c .before .loop in
     i .inv ∙ ap (sets (a .file .now) (a .at)) (take-all (i .i) (a .bytes .now) (c .loop-test .left))

@@ -1,95 +1,93 @@
+-- `grid_writes::write_grid` meets its contract: the words and bytes of the grid are stored one behind another.
+-- Assumes nothing.
+use mathlib.Core.Path.{_≡_, ap, _∙_}
+use mathlib.Core.List.{List}
+use Prim.Native.Nat.{ℕ, _+_, _-_, _*_}
+use native.Mathlib.Omega.{arith}
+use lib.ListN.{length, take, drop, length-drop}
+use lib.Seq.{sets, take-all}
 use borrow.Author.Needs.{needs}
+use Rattle.grid_writes.proofs.Bytes.{grid-stored}
 use Rattle.grid_writes.proofs.write_grid.Statement.{statement}
 use Rattle.grid_writes.proofs.write_grid.Tie as tie
-use Rattle.grid_writes.proofs.write_grid.Reads as reads
-use Rattle.grid_writes.proofs.write_grid.Lts as lts
-use Rattle.endian.proofs.write_number.Reads as write-number-reads
-use Rattle.grid_writes.proofs.write_bytes.Reads as write-bytes-reads
-use Rattle.grid_writes.proofs.write_values.Reads as write-values-reads
 
--- src/lib.rt:248:16
 mul-size : tie.Need-mul-size
 mul-size c = search needs
 
--- src/lib.rt:249:34
 mul-write-number : tie.Need-mul-write-number
 mul-write-number c = search needs
 
--- src/lib.rt:249:42
 cast-write-number : tie.Need-cast-write-number
 cast-write-number c = search needs
 
--- src/lib.rt:249:5
 write-number-requires : tie.Need-write-number-requires
 write-number-requires c κs = search needs
 
--- src/lib.rt:250:34
 mul-write-number-2 : tie.Need-mul-write-number-2
 mul-write-number-2 c = search needs
 
--- src/lib.rt:250:34
 add-write-number : tie.Need-add-write-number
 add-write-number c = search needs
 
--- src/lib.rt:250:5
 write-number-requires-2 : tie.Need-write-number-requires-2
 write-number-requires-2 c κs = search needs
 
--- src/lib.rt:251:34
 mul-write-number-3 : tie.Need-mul-write-number-3
 mul-write-number-3 c = search needs
 
--- src/lib.rt:251:34
 add-write-number-2 : tie.Need-add-write-number-2
 add-write-number-2 c = search needs
 
--- src/lib.rt:251:5
 write-number-requires-3 : tie.Need-write-number-requires-3
 write-number-requires-3 c κs = search needs
 
--- src/lib.rt:252:23
 mul-write-bytes : tie.Need-mul-write-bytes
 mul-write-bytes c = search needs
 
--- src/lib.rt:252:23
 add-write-bytes : tie.Need-add-write-bytes
 add-write-bytes c = search needs
 
--- src/lib.rt:252:36
 sub-write-bytes : tie.Need-sub-write-bytes
 sub-write-bytes c = search needs
 
--- src/lib.rt:252:36
 part-write-bytes-start : tie.Need-part-write-bytes-start
 part-write-bytes-start c = search needs
 
--- src/lib.rt:252:36
 part-write-bytes-end : tie.Need-part-write-bytes-end
 part-write-bytes-end c = search needs
 
--- src/lib.rt:252:5
 write-bytes-requires : tie.Need-write-bytes-requires
 write-bytes-requires c κs = search needs
 
--- src/lib.rt:253:31
 mul-write-values : tie.Need-mul-write-values
 mul-write-values c = search needs
 
--- src/lib.rt:253:31
 add-write-values : tie.Need-add-write-values
 add-write-values c = search needs
 
--- src/lib.rt:253:5
 write-values-requires : tie.Need-write-values-requires
 write-values-requires c κs = search needs
 
--- src/lib.rt:236:1
 same-length : tie.Need-same-length
 same-length c = search needs
 
--- src/lib.rt:236:1
 returns : tie.Need-returns
-returns c = ?
+returns c =
+    let by-values = c .before .before in
+    let by-header = by-values .before .before .before .before in
+    let by-columns = by-header .before .before .before .before .before in
+    let by-rows = by-columns .before .before .before .before in
+    let by-size = by-rows .before .before .before .before in
+    let s = by-size .before .before .before .before in
+    let a = s .args in
+    let h : List ℕ = a .header .now in
+    let rest : take (length h - 12) (drop 12 h) ≡ drop 12 h = take-all (length h - 12) (drop 12 h) (omega (arith, length-drop 12 h)) in
+    grid-stored (a .order) h (a .rows) (a .columns) (a .values .now) (a .file .now) (4 * a .at) (s .pre .0)
+    (by-size .write-number .ensures)
+    (by-rows .write-number2 .ensures)
+    (by-columns .write-number3 .ensures)
+    (by-header .write-bytes .ensures ∙ ap (sets (by-columns .write-number3 .last .1 .1 .0) (4 * a .at + 12)) rest)
+    (by-values .write-values .ensures)
 
 pub write-grid-spec : {M : Type 1} → statement M
 write-grid-spec =
