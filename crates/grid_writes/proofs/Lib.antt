@@ -1,3 +1,4 @@
 pub mod Verdicts
 pub mod Plans
 pub mod Bytes
+pub mod Calls

@@ -8,7 +8,7 @@ use native.Mathlib.Nat.{suc-mul}
 use native.Mathlib.Numerals.{add-one}
 use native.Mathlib.Omega.{arith}
 use lib.ListN.{length, getD, set, take, drop, length-append, length-drop, List·getD-append}
-use lib.Seq.{drop-cons, drop-length, drop-drop, set-at, take-at, drop-at, getD-append-add, getD-drop}
+use lib.Seq.{drop-cons, drop-length, drop-drop, drop-append-add, set-at, take-at, drop-at, getD-append-add, getD-drop}
 use Rattle.lists.specs.Lists.{listOf, linesOf, over}
 use Rattle.lists.proofs.Built.{length-listOf, listOf-append, length-linesOf}
 
@@ -34,6 +34,16 @@ module _ {A : Type 0} where
 
   pub over-all : (l out : List A) → length l ≡ length out → over l out ≡ l
   over-all l out e = rw (e, drop-length out) (append-nil l)
+
+  -- a copy over a shorter one leaves nothing of it
+  pub over-again : (l k out : List A) → length k ≤ length l → over l (over k out) ≡ over l out
+  over-again l k out h =
+      let e : length l ≡ length k + (length l - length k) = omega arith in
+      ap (λ (x : List A). l ++ x)
+      (ap (λ (n : ℕ). drop n (over k out)) e
+      ∙ drop-append-add k (drop (length k) out) (length l - length k)
+      ∙ drop-drop (length l - length k) (length k) out
+      ∙ ap (λ (n : ℕ). drop n out) (sym e))
 
 module _ {A : Type 0} (f : ℕ → A) where
   -- a copy of a list by its index is what a loop of that many turns leaves

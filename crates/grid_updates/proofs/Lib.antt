@@ -1,0 +1,4 @@
+pub mod Calls
+pub mod FileCalls
+pub mod Held
+pub mod TableCalls
