@@ -31,9 +31,11 @@ abbrev pub Yields : {M : Type 1} (𝓤 : URA M) (H : Heap 𝓤) (R : RattleType)
 Yields 𝓤 H R Z w = H .⇛ (ex 𝓤 (λ (r : R .Denot). guard 𝓤 (Is R r (w ∷ [])) (Z r)))
 
 module _ {M : Type 1} {𝓤 : URA M} {H : Heap 𝓤} {A : Atoms 𝓤} {K : Type 0} {W : Given 𝓤 H A} {Γ : List (Item 𝓤)} where
-  pub onward : K → {C : Calls 𝓤 H} → FmC 𝓤 H (W .laws) C → {f : Name} {vs : List Val} {Q Z : Val → SProp 𝓤} → ((w : Val) → Seq K W (raw (Q w) ∷ Γ) (prop (Z w))) → Seq K W (raw (C f vs Q) ∷ Γ) (prop (C f vs Z))
+  pub onward : K → {C : Calls 𝓤 H} → FmC 𝓤 H (W .laws) C → {f : Name} {vs : List Val} {Q Z : Val → SProp 𝓤} → ((w : Val) → Seq K W (raw (Q w) ∷ Γ) (prop (Z w)))
+      → Seq K W (raw (C f vs Q) ∷ Γ) (prop (C f vs Z))
   onward t {C} fm {f} {vs} {Q} {Z} k = record {
-    prf = via 𝓤 (sep 𝓤 (C f vs Q) (⋆ 𝓤 H A Γ)) (pop 𝓤 H A (raw (C f vs Q)) Γ) (fm f vs Q Z (⋆ 𝓤 H A Γ) (λ w. via 𝓤 (⋆ 𝓤 H A (raw (Q w) ∷ Γ)) (push 𝓤 H A (raw (Q w)) Γ) (k w .prf)));
+    prf = via 𝓤 (sep 𝓤 (C f vs Q) (⋆ 𝓤 H A Γ)) (pop 𝓤 H A (raw (C f vs Q)) Γ)
+        (fm f vs Q Z (⋆ 𝓤 H A Γ) (λ w. via 𝓤 (⋆ 𝓤 H A (raw (Q w) ∷ Γ)) (push 𝓤 H A (raw (Q w)) Γ) (k w .prf)));
   }
 
   pub asks : K → {C : Calls 𝓤 H} → FmC 𝓤 H (W .laws) C → {f : Name} (c : Contract 𝓤) → Triple 𝓤 (C f) c → (x : c .Ghost) {Z : Val → SProp 𝓤}
@@ -42,11 +44,14 @@ module _ {M : Type 1} {𝓤 : URA M} {H : Heap 𝓤} {A : Atoms 𝓤} {K : Type 
 
   pub answers : K → (T : Ended) (c : Clauses 𝓤 T) (y : Contracted 𝓤 H A T c .Ghost) (w : Val) {P : SProp 𝓤}
       → ((r : Res (T .signature) (y .0 .0)) → Is (typeAt (T .signature .result) (y .0 .0)) r (w ∷ []) → (ws : Lasts T (y .0 .0) (y .0 .3))
-      → Seq K W (raw (c (y .0 .0) (y .0 .3) .ensures (y .1) r (atExit T (y .0 .0) (y .0 .3) ws)) ∷ raw (toks 𝓤 A (T .signature .lifetimes) (y .0 .0) (y .0 .1)) ∷ ‵ (lasts T (y .0 .0) (y .0 .3) ws) ∷ Γ) (upd P))
+      → Seq K W (raw (c (y .0 .0) (y .0 .3) .ensures (y .1) r (atExit T (y .0 .0) (y .0 .3) ws)) ∷ raw (toks 𝓤 A (T .signature .lifetimes) (y .0 .0) (y .0 .1)) ∷ ‵
+      (lasts T (y .0 .0) (y .0 .3) ws) ∷ Γ) (upd P))
       → Seq K W (raw (Contracted 𝓤 H A T c .post y w) ∷ Γ) (upd P)
   answers t T c y w k =
       let R : RattleType = typeAt (T .signature .result) (y .0 .0) in
-      use1 W (later (some (λ (r : Res (T .signature) (y .0 .0)). (raw (toks 𝓤 A (T .signature .lifetimes) (y .0 .0) (y .0 .1)) ⊛ ‵ (R .own r (w ∷ []))) ⊛ raw (ensured 𝓤 H A T c (y .0 .0) (y .0 .3) (y .1) r)))) (id⊢ 𝓤 _) $ await t tt $ pick t (λ r.
+      use1 W (later (some (λ (r : Res (T .signature) (y .0 .0)). (raw (toks 𝓤 A (T .signature .lifetimes) (y .0 .0) (y .0 .1)) ⊛ ‵ (R .own r (w ∷ []))) ⊛ raw
+      (ensured 𝓤 H A T c (y .0 .0) (y .0 .3) (y .1) r)))) (id⊢ 𝓤 _) $ await t tt $ pick t (λ r.
       split t $ split t $ move t (1 ∷ []) $ peeks t R (Is R) (shows 𝓤 H A R) r (w ∷ []) (λ is. drop t $ move t (1 ∷ []) $
-      use1 W (some (λ (ws : Lasts T (y .0 .0) (y .0 .3)). ‵ (lasts T (y .0 .0) (y .0 .3) ws) ⊛ raw (c (y .0 .0) (y .0 .3) .ensures (y .1) r (atExit T (y .0 .0) (y .0 .3) ws)))) (id⊢ 𝓤 _) $ pick t (λ ws.
+      use1 W (some (λ (ws : Lasts T (y .0 .0) (y .0 .3)). ‵ (lasts T (y .0 .0) (y .0 .3) ws) ⊛ raw
+      (c (y .0 .0) (y .0 .3) .ensures (y .1) r (atExit T (y .0 .0) (y .0 .3) ws)))) (id⊢ 𝓤 _) $ pick t (λ ws.
       split t $ move t (1 ∷ 2 ∷ 0 ∷ []) $ k r is ws)))

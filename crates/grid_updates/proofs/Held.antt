@@ -57,10 +57,12 @@ module _ (R : RattleType) (ℓ : Lifetime) (κ : Lft) (q : Share) (x : RefT (Lis
         (λ is. k (ap (λ (z : (ℕ × ℕ) × ℕ). z .1) (mut-slice-fixes ℓ κ R (at-last x ys) x (v ∷ []) is at-entry)))
 
     pub lends : K → Soaks G → (ℓ′ : Lifetime) (ys : List (R .Denot))
-        → ((ν : ℕ) (δ : GName) → Seq K W (‵ (MutSlice ℓ′ (ν ∷ []) R .own (under δ ys) (v ∷ [])) ∷ ‵ (flft (ν ∷ []) fullShare) ∷ ‵ (Lent ν δ ys) ∷ Γ) G) → Seq K W (‵ (Holds ys) ∷ Γ) G
+        → ((ν : ℕ) (δ : GName) → Seq K W (‵ (MutSlice ℓ′ (ν ∷ []) R .own (under δ ys) (v ∷ [])) ∷ ‵ (flft (ν ∷ []) fullShare) ∷ ‵ (Lent ν δ ys) ∷ Γ) G)
+        → Seq K W (‵ (Holds ys) ∷ Γ) G
     lends t z ℓ′ ys k = fsplit t $ peeks t (MutSlice ℓ κ R) (Is (MutSlice ℓ κ R)) (shows 𝓤 H A (MutSlice ℓ κ R)) (at-last x ys) (v ∷ []) (λ is.
         rewrite t 0 (λ (us : List Val). ‵ (MutSlice ℓ κ R .own (at-last x ys) us)) (is .0 .0) refl $ lft-new t z (λ ν. move t (1 ∷ 2 ∷ []) $
-        use2 W (later (some (λ (δ : GName). ‵ (MutSlice ℓ′ (ν ∷ []) R .own (under δ ys) (_ ∷ [])) ⊛ ‵ (LentAgain R κ (ν ∷ []) q (x .name) (x .ptr .0) (x .ptr .1) δ ys))))
+        use2 W (later (some (λ (δ : GName). ‵ (MutSlice ℓ′ (ν ∷ []) R .own (under δ ys) (_ ∷ [])) ⊛ ‵
+        (LentAgain R κ (ν ∷ []) q (x .name) (x .ptr .0) (x .ptr .1) δ ys))))
         (lends-again R κ (ν ∷ []) q (x .name) (x .ptr .0) (x .ptr .1) 𝓤 H A W ℓ ℓ′ ys) $ await t z $ pick t (λ δ. split t $
         rewrite t 0 (λ (us : List Val). ‵ (MutSlice ℓ′ (ν ∷ []) R .own (under δ ys) us)) (sym (is .0 .0)) refl $
         -- [the slice, lent; what is kept of it; ν's token; …]
@@ -74,14 +76,16 @@ module _ (R : RattleType) (ℓ : Lifetime) (κ : Lft) (q : Share) (x : RefT (Lis
         rewrite t 0 (λ (us : List Val). ‵ (MutSlice ℓ κ R .own (at-last x zs) us)) (sym (p .0)) refl $ fjoin t $ s))
 
     pub shares : K → Soaks G → (ℓ′ : Lifetime) (ys : List (R .Denot))
-        → ((μ : ℕ) (δ : GName) → Seq K W (‵ (ShrSlice ℓ′ (μ ∷ []) R .own (under δ ys) (v ∷ [])) ∷ ‵ (flft (μ ∷ []) fullShare) ∷ ‵ (Shared μ ys) ∷ Γ) G) → Seq K W (‵ (Holds ys) ∷ Γ) G
+        → ((μ : ℕ) (δ : GName) → Seq K W (‵ (ShrSlice ℓ′ (μ ∷ []) R .own (under δ ys) (v ∷ [])) ∷ ‵ (flft (μ ∷ []) fullShare) ∷ ‵ (Shared μ ys) ∷ Γ) G)
+        → Seq K W (‵ (Holds ys) ∷ Γ) G
     shares t z ℓ′ ys k = fsplit t $ fsplit t $ pureL t (at-slice R (at-last x ys) (v ∷ [])) (λ p. fsplit t $
         opens-slice t z R ys (x .ptr .0) (x .ptr .1) $ feqI t ℕ (length ys) (length ys) refl $ fjoin t $ lft-new t z (λ μ. move t (1 ∷ []) $
         use1 W (later (some (λ (δ : GName). ‵ (ShrSlice ℓ′ (μ ∷ []) R .own (under δ ys) (_ ∷ [])) ⊛ ‵ (flent (μ ∷ []) (Part ys)))))
         (lends-shr-slice 𝓤 H A W R ℓ′ (μ ∷ []) fullShare ys (x .ptr .0) (x .ptr .1) (p .1)) $ await t z $ pick t (λ δ. split t $
         rewrite t 0 (λ (us : List Val). ‵ (ShrSlice ℓ′ (μ ∷ []) R .own (under δ ys) us)) (sym (p .0)) refl $
         -- [the slice, lent; the lender's part; μ's token; the open borrow; obs; auth; …]
-        move t (4 ∷ 5 ∷ []) $ fjoin t $ move t (4 ∷ 0 ∷ []) $ fjoin t $ move t (2 ∷ 0 ∷ []) $ fjoin t $ pureI t (at-slice R (at-last x ys) (v ∷ [])) (tt, (tt, tt)) p $ fjoin t $
+        move t (4 ∷ 5 ∷ []) $ fjoin t $ move t (4 ∷ 0 ∷ []) $ fjoin t $ move t (2 ∷ 0 ∷ []) $ fjoin t $
+        pureI t (at-slice R (at-last x ys) (v ∷ [])) (tt, (tt, tt)) p $ fjoin t $
         move t (1 ∷ 2 ∷ 0 ∷ []) $ k μ δ)))
 
     pub returns-home : K → Soaks G → {μ : ℕ} (ys : List (R .Denot)) → Step K W (‵ (Holds ys) ∷ Γ) G (‵ (flft (μ ∷ []) fullShare) ∷ ‵ (Shared μ ys) ∷ Γ) G

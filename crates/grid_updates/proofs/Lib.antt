@@ -1,4 +1,5 @@
 pub mod Calls
 pub mod FileCalls
 pub mod Held
+pub mod Slices
 pub mod TableCalls

@@ -45,9 +45,27 @@ pub fn add(
 ) -> AddAnswer
     ensures { λ r. ⌜ (addSays r, (now (file .exit), now (table .exit))) ≡ addGrid order (now (file .entry)) (now (header .entry)) rows columns (now (values .entry)) (now (table .entry)) ⌝ }
 {
-    let plan = plan_add(file, order, header.len(), rows, columns, values.len(), table.len());
+    let plan = plan_add(
+        file,
+        order,
+        header.len(),
+        rows,
+        columns,
+        values.len(),
+        table.len(),
+    );
     let found = search(table, file, order, plan.count, plan.need);
-    let change = add_at(file, order, header, rows, columns, values, table.len(), plan, found);
+    let change = add_at(
+        file,
+        order,
+        header,
+        rows,
+        columns,
+        values,
+        table.len(),
+        plan,
+        found,
+    );
     fill(table, file, order, change.count);
     change.answer
 }

@@ -21,12 +21,12 @@ use Rattle.refusal.specs.declared.Verdict.the-variants.{Pass, Fault}
 use Rattle.refusal.proofs.Tables.{fault-pass}
 use Rattle.extents.specs.Stretches.{none}
 use Rattle.extents.specs.Rooms.{firstOf, searched}
-use Rattle.extents.specs.Steps.{Accepted, run}
+use Rattle.extents.specs.Steps.{Accepted, run, runsOver}
 use Rattle.extents.specs.declared.Extent.{Extent}
 use Rattle.extents.proofs.Runs.{stretches-listed, stretches-few, stretches-more}
 use Rattle.extents.proofs.Fit.{searched-room}
 use Rattle.grid_changes.specs.Changes.{addSays, stretchesOf, changed, deleteRules, withoutGrid, deleteGrid, gridWords, addressFor, addRules, withGrid, added, addGrid}
-use Rattle.grid_changes.proofs.Deleted.{delete-passes, deleted-length, deleted-accepted, deleted-count}
+use Rattle.grid_changes.proofs.Deleted.{delete-passes, deleted-accepted, deleted-count}
 use Rattle.grid_changes.proofs.Addition.{AddAsked, AddPasses, add-passes, added-length, added-accepted, added-count, added-starts}
 use Rattle.grid_writes.specs.Writes.{deletionSays, additionSays, stepped, deleteStep, planned, addPlan, addStep, Ready}
 use Rattle.grid_writes.specs.declared.Deletion.{Deletion}
@@ -38,7 +38,7 @@ abbrev runs : Order → List ℕ → ℕ → List Extent
 runs o g count = listOf (λ i. run o g (suc i)) count
 
 -- filling no place leaves a table as it was
-runs-none : (o : Order) (g : List ℕ) (t : List Extent) → over (runs o g 0) t ≡ t
+runs-none : (o : Order) (g : List ℕ) (t : List Extent) → runsOver o g 0 t ≡ t
 unfolding listOf
 runs-none o g t = refl
 
@@ -60,14 +60,12 @@ table-room o g size l = omega (arith, l, stretches-few (wordAt o g) (length g / 
 record Changed (o : Order) (f g : List ℕ) (size : ℕ) : Type 0 where
   accepted : Accepted o g
   room : length (stretchesOf o g) ≤ size
-  same-length : length g ≡ length f
 
 -- What a call wants of what the function under it says and leaves, s: the places that are to be filled can be filled; once they are, answer, file and table
--- are what the definition of the call gives; and the file is as long as it was.
+-- are what the definition of the call gives.
 record Carried {Value : Type 0} (v : Verdict) (value : ℕ → Value) (o : Order) (f g : List ℕ) (size : ℕ) (s : (Answer Value × ℕ) × List ℕ) : Type 0 where
   may-fill : Fillable o (s .1) size (s .0 .1)
-  done : (t : List Extent) → (s .0 .0, (s .1, over (runs o (s .1) (s .0 .1)) t)) ≡ changed v value o f g t
-  same-length : length (s .1) ≡ length f
+  done : (t : List Extent) → (s .0 .0, (s .1, runsOver o (s .1) (s .0 .1) t)) ≡ changed v value o f g t
 
 -- what the function leaves by the verdict of the rules is that
 carried : {Value : Type 0} (v : Verdict) (value : ℕ → Value) (o : Order) (f g : List ℕ) (size : ℕ) → (v ≡ Pass → Changed o f g size)
@@ -77,13 +75,11 @@ carried Pass value o f g size h =
     record {
       may-fill = (c .room, λ some. c .accepted);
       done = λ t. ap (λ (l : List Extent). (gives (value (length (stretchesOf o g))), (g, over l t))) (sym (stretches-listed o g (c .accepted)));
-      same-length = c .same-length;
     }
 carried (Fault r) value o f g size h =
     record {
       may-fill = none-fillable o f size;
       done = λ t. ap (λ (u : List Extent). (refuses (r .number) (r .place), (f, u))) (runs-none o f t);
-      same-length = refl;
     }
 
 -- ---- deleting
@@ -96,7 +92,6 @@ delete-changed o f number size ok =
       room =
           table-room o (withoutGrid o f number) size
           (omega (arith, deleted-count o f number size ok, delete-passes o f number size .0 ok .table));
-      same-length = deleted-length o f number;
     }
 
 module _ (o : Order) (f : List ℕ) (number : ℕ) (t : List Extent) (d : Deletion) (g : List ℕ) (e : (deletionSays d, g) ≡ deleteStep o f number (length t)) where
@@ -113,13 +108,9 @@ module _ (o : Order) (f : List ℕ) (number : ℕ) (t : List Extent) (d : Deleti
   delete-may-fill = deletes .may-fill
 
   -- once they are filled, answer, file and table are those of the call
-  pub delete-done : (sizeSays (d .answer), (g, over (listOf (λ i. run o g (suc i)) (d .count)) t)) ≡ deleteGrid o f number t
+  pub delete-done : (sizeSays (d .answer), (g, runsOver o g (d .count) t)) ≡ deleteGrid o f number t
   unfolding deleteGrid
   delete-done = deletes .done t
-
-  -- the file is as long as it was
-  pub delete-length : length g ≡ length f
-  delete-length = deletes .same-length
 
 -- ---- adding: the plan
 
@@ -147,7 +138,7 @@ plan-may-fill o f headers rows columns values t p e =
 abbrev Finds : Order → List ℕ → ℕ → ℕ → List Extent → AddPlan → Type 0
 Finds o f rows columns t p =
     p .verdict ≡ Pass
-    → firstOf (p .need) (searched (over (runs o f (p .count)) t) (p .need) (p .count)) (p .last) .start ≡ addressFor o f (gridWords rows columns)
+    → firstOf (p .need) (searched (runsOver o f (p .count) t) (p .need) (p .count)) (p .last) .start ≡ addressFor o f (gridWords rows columns)
 
 module _ (o : Order) (f : List ℕ) (headers rows columns values : ℕ) (t : List Extent) where
   -- it does, by the verdict of the rules
@@ -157,7 +148,7 @@ module _ (o : Order) (f : List ℕ) (headers rows columns values : ℕ) (t : Lis
       let x : AddPasses o f headers rows columns values (length t) = h refl in
       searched-room o f (x .asked .accepted) (gridWords rows columns) (omega arith)
       (lt-ltb (addressFor o f (gridWords rows columns)) (length f / 4) (x .room))
-      (over (runs o f (n - 1)) t) n refl
+      (runsOver o f (n - 1) t) n refl
       (λ i l.
       over-front (runs o f (n - 1)) t i none (rw (length-listOf (λ k. run o f (suc k)) (n - 1)) l)
       ∙ getD-listOf (λ k. run o f (suc k)) (n - 1) i none l)
@@ -166,7 +157,7 @@ module _ (o : Order) (f : List ℕ) (headers rows columns values : ℕ) (t : Lis
 -- what was found in the table, filled as the plan says, makes the plan ready
 pub plan-ready : (o : Order) (f header : List ℕ) (rows columns : ℕ) (values : List ℤ) (t : List Extent) (p : AddPlan) (e : Extent)
     → p ≡ addPlan o f (length header) rows columns (length values) (length t)
-    → e ≡ searched (over (listOf (λ i. run o f (suc i)) (p .count)) t) (p .need) (p .count)
+    → e ≡ searched (runsOver o f (p .count) t) (p .need) (p .count)
     → Ready o f header rows columns values (length t) p e
 unfolding addPlan
 plan-ready o f header rows columns values t p e is found =
@@ -195,7 +186,6 @@ module _ (o : Order) (f header : List ℕ) (rows columns : ℕ) (values : List �
         room =
             table-room o (withGrid o f header rows columns values) size
             (omega (arith, added-count o f header rows columns values size ok, x .asked .table));
-        same-length = added-length o f header rows columns values size ok;
       }
 
   -- at most one free stretch is gone
@@ -209,15 +199,15 @@ module _ (o : Order) (f header : List ℕ) (rows columns : ℕ) (values : List �
 -- the last filling covers the first, where at most one free stretch is gone
 changed-again : {Value : Type 0} (v : Verdict) (value : ℕ → Value) (o : Order) (f g : List ℕ) (rows columns : ℕ) (t : List Extent)
     → (v ≡ Pass → length (stretchesOf o f) ≤ length (stretchesOf o g) + 1)
-    → changed v value o f g (over (runs o f (planned v o f rows columns .count)) t) ≡ changed v value o f g t
+    → changed v value o f g (runsOver o f (planned v o f rows columns .count) t) ≡ changed v value o f g t
 changed-again Pass value o f g rows columns t h =
     ap (λ (u : List Extent). (gives (value (length (stretchesOf o g))), (g, u)))
     (over-again (stretchesOf o g) (runs o f (length (stretchesOf o f) - 1)) t
     (omega (arith, h refl, length-listOf (λ i. run o f (suc i)) (length (stretchesOf o f) - 1))))
 changed-again (Fault r) value o f g rows columns t h = ap (λ (u : List Extent). (refuses (r .number) (r .place), (f, u))) (runs-none o f t)
 
-module _ (o : Order) (f header : List ℕ) (rows columns : ℕ) (values : List ℤ) (t : List Extent) (p : AddPlan) (a : Addition) (g : List ℕ) where
-  module _ (e : (additionSays a, g) ≡ addStep o f header rows columns values (length t)) where
+module _ (o : Order) (f header : List ℕ) (rows columns : ℕ) (values : List ℤ) (t : List Extent) where
+  module _ (a : Addition) (g : List ℕ) (e : (additionSays a, g) ≡ addStep o f header rows columns values (length t)) where
     -- what was said and left is what the call wants
     adds : Carried (firstFault (addRules o f (length header) rows columns (length values) (length t))) (added o f rows columns) o f
         (withGrid o f header rows columns values) (length t) (additionSays a, g)
@@ -232,19 +222,14 @@ module _ (o : Order) (f header : List ℕ) (rows columns : ℕ) (values : List �
     pub add-may-fill : (a .count ≤ length t) × (0 < a .count → Accepted o g)
     add-may-fill = adds .may-fill
 
-    -- the file is as long as it was
-    pub add-length : length g ≡ length f
-    add-length = adds .same-length
-
   -- once they are filled, in the table that was filled for the search, answer, file and table are those of the call
-  pub add-done : p ≡ addPlan o f (length header) rows columns (length values) (length t)
+  pub add-done : (p : AddPlan) (a : Addition) (g : List ℕ) → p ≡ addPlan o f (length header) rows columns (length values) (length t)
       → (additionSays a, g) ≡ addStep o f header rows columns values (length t)
-      → (addSays (a .answer), (g, over (listOf (λ i. run o g (suc i)) (a .count)) (over (listOf (λ i. run o f (suc i)) (p .count)) t)))
-      ≡ addGrid o f header rows columns values t
+      → (addSays (a .answer), (g, runsOver o g (a .count) (runsOver o f (p .count) t))) ≡ addGrid o f header rows columns values t
   unfolding addGrid addPlan
-  add-done is e =
+  add-done p a g is e =
       let v : Verdict = firstFault (addRules o f (length header) rows columns (length values) (length t)) in
       let h : List ℕ = withGrid o f header rows columns values in
-      adds e .done (over (runs o f (p .count)) t)
-      ∙ ap (λ (q : AddPlan). changed v (added o f rows columns) o f h (over (runs o f (q .count)) t)) is
+      adds a g e .done (runsOver o f (p .count) t)
+      ∙ ap (λ (q : AddPlan). changed v (added o f rows columns) o f h (runsOver o f (q .count) t)) is
       ∙ changed-again v (added o f rows columns) o f h rows columns t (add-fewer o f header rows columns values (length t))

@@ -1,6 +1,6 @@
--- `grid_updates::add` meets its contract: it calls `grid_writes::plan_add`, to which it lends the file as `&`; `extent_tables::search`, to which it lends the table as `&mut` and the file as `&`;
--- `grid_writes::add_at`, to which it lends the file as `&mut`; and `extent_tables::fill`, which is lent what `search` is. First the code, which makes these calls; then what comes of the calls, with what
--- the function holds.
+-- `grid_updates::add` meets its contract: it calls `grid_writes::plan_add`, to which it lends the file as `&`; `extent_tables::search`, to which it lends the table as
+-- `&mut` and the file as `&`; `grid_writes::add_at`, to which it lends the file as `&mut`; and `extent_tables::fill`, which is lent what `search` is. First the code,
+-- which makes these calls; then what comes of the calls, with what the function holds.
 -- Assumes nothing.
 use mathlib.Core.Path.{_≡_, refl, sym, ap, subst}
 use Prim.Native.Nat.{ℕ, _≤_, _<_, _^_}
@@ -20,8 +20,7 @@ use contract.Lifetimes.{Lfts, Shares, toks}
 use contract.Monad.{Fun, factI}
 use contract.Running.{givenOf, tables, tablesOf}
 use types.Kit.{Given, Item, ‵, raw, _⊛_, given, ⋆, some, later, _$_, _∵_, !, qed, by, move, keep, drop, use1, use2, use3, split, join, learn, pick, rewrite, fsplit, fjoin, suffices, frame, await, updating, now as at-once, check, show, done}
-use types.Part.{agg, whole, sub, look-in}
-use types.Run.{look, store, init, stop, hop, fld, from, load, addr, of-opd, and-then, no-more, assigns, calls, land, returns}
+use types.Run.{look, store, init, stop, from, of-opd, and-then, no-more, assigns, calls, land, returns}
 use sound.Laws.{ofModel}
 use sound.WpLaws.{FmC, fmOf}
 use denote.RattleType.{RattleType, owns}
@@ -76,8 +75,9 @@ use Rattle.grid_writes.proofs.plan_add.Met as plans-met
 use Rattle.grid_writes.proofs.plan_add.Symbol as plans-def
 use Rattle.grid_writes.proofs.plan_add.Symbol.{name as #plans}
 use Rattle.grid_updates.proofs.Calls.{Contracted, Yields, onward}
-use Rattle.grid_updates.proofs.FileCalls.{lends-file, shares-file}
+use Rattle.grid_updates.proofs.FileCalls.{number-slot, lends-file, shares-file}
 use Rattle.grid_updates.proofs.Held.{Holds, counts}
+use Rattle.grid_updates.proofs.Slices.{member, lends-on}
 use Rattle.grid_updates.proofs.TableCalls.{Filling, lends-both, fills}
 use Rattle.grid_updates.proofs.add as self
 use Rattle.grid_updates.proofs.add.Code as code
@@ -94,7 +94,7 @@ addition = LL.val D.the-type D′.the-laws
 abbrev answer : AddAnswer → Val
 answer = EL.val S.the-type S′.the-laws
 
--- a plan's relation, an extent's and an addition's, at the machine values written out
+-- a plan's relation, and an extent's, at the machine values written out
 plan-is : (p : AddPlan) (w : Val) → Is P.the-row p (w ∷ []) → Is P.the-row p (plan-value p ∷ [])
 plan-is p w is = subst (Is P.the-row p) (LL.tells P.the-type P′.the-laws p (w ∷ []) is) is
 
@@ -107,11 +107,9 @@ plan-sizes p w is =
     let parts = LL.owed P.the-type P′.the-laws p (plan-value p ∷ []) (plan-is p w is) in
     (parts .1 .1 .1 .0, parts .1 .1 .0)
 
-parts : (d : Addition) (w : Val) → Is D.the-row d (w ∷ []) → Is S.the-row (d .answer) (answer (d .answer) ∷ []) × (Is usize (d .count) (vint w64 (d .count) ∷ []) × Unit {0})
+parts : (d : Addition) (w : Val) → Is D.the-row d (w ∷ [])
+    → Is S.the-row (d .answer) (answer (d .answer) ∷ []) × (Is usize (d .count) (vint w64 (d .count) ∷ []) × Unit {0})
 parts d w is = LL.owed D.the-type D′.the-laws d (addition d ∷ []) (subst (Is D.the-row d) (LL.tells D.the-type D′.the-laws d (w ∷ []) is) is)
-
-abbrev number-slot : {n : ℕ} → Slot n
-number-slot = plain (λ _. u32)
 
 -- a header and values as parameters of a function with four lifetimes
 abbrev header-slot : Slot 4
@@ -121,12 +119,43 @@ abbrev values-slot : Slot 4
 values-slot = shrSliceOf (2 ∷ []) tt (plain (λ _. i32))
 
 abbrev stayed : Stays (self.ended .signature .params) (self.ended .kept)
-stayed = (stay-slice (0 ∷ []) tt (plain (λ _. u8)), (stay-dropped order-slot yes, (stay-dropped header-slot yes, (stay-dropped number-slot yes, (stay-dropped number-slot yes, (stay-dropped values-slot yes,
-    (stay-slice (3 ∷ []) tt (plain (λ _. X.the-row)), tt)))))))
+stayed = (
+  stay-slice (0 ∷ []) tt (plain (λ _. u8)),
+  (
+    stay-dropped order-slot yes,
+    (
+      stay-dropped header-slot yes,
+      (
+        stay-dropped number-slot yes,
+        (
+          stay-dropped number-slot yes,
+          (
+            stay-dropped values-slot yes,
+            (stay-slice (3 ∷ []) tt (plain (λ _. X.the-row)), tt),
+          ),
+        ),
+      ),
+    ),
+  ),
+)
 
 goes : {M : Type 1} (𝓤 : URA M) (H : Heap 𝓤) (A : Atoms 𝓤) (W : Given 𝓤 H A) → AllGo 𝓤 H A W 4 (self.ended .signature .params) (self.ended .kept) stayed
-goes 𝓤 H A W = (goes-slice 𝓤 H A W 4 0 tt (plain (λ _. u8)), (goes-dropped 𝓤 H A W 4 order-slot yes (λ κs x f. refl), (goes-dropped 𝓤 H A W 4 header-slot yes (λ κs x f. refl), (goes-dropped 𝓤 H A W 4 number-slot yes (λ κs x f. refl),
-    (goes-dropped 𝓤 H A W 4 number-slot yes (λ κs x f. refl), (goes-dropped 𝓤 H A W 4 values-slot yes (λ κs x f. refl), (goes-slice 𝓤 H A W 4 3 tt (plain (λ _. X.the-row)), tt)))))))
+goes 𝓤 H A W = (
+  goes-slice 𝓤 H A W 4 0 tt (plain (λ _. u8)),
+  (
+    goes-dropped 𝓤 H A W 4 order-slot yes (λ κs x f. refl),
+    (
+      goes-dropped 𝓤 H A W 4 header-slot yes (λ κs x f. refl),
+      (
+        goes-dropped 𝓤 H A W 4 number-slot yes (λ κs x f. refl),
+        (
+          goes-dropped 𝓤 H A W 4 number-slot yes (λ κs x f. refl),
+          (goes-dropped 𝓤 H A W 4 values-slot yes (λ κs x f. refl), (goes-slice 𝓤 H A W 4 3 tt (plain (λ _. X.the-row)), tt)),
+        ),
+      ),
+    ),
+  ),
+)
 
 -- the contracts of `plan_add`, `search` and `add_at`
 module _ {M : Type 1} (𝓤 : URA M) (H : Heap 𝓤) (A : Atoms 𝓤) (mem : Memory → SProp 𝓤) (runs : Routine → Fun 𝓤) where
@@ -184,7 +213,8 @@ module _ (κs : Lfts 4) (a : Args self.signature κs) where
   size = length (now table)
 
   abbrev rows-of : List RattleType
-  rows-of = MutSlice (named 0) (κs .0) u8 ∷ O.the-row ∷ ShrSlice (named 1) (κs .1 .0) u8 ∷ u32 ∷ u32 ∷ ShrSlice (named 2) (κs .1 .1 .0) i32 ∷ MutSlice (named 3) (κs .1 .1 .1 .0) X.the-row ∷ []
+  rows-of = MutSlice (named 0) (κs .0) u8 ∷ O.the-row ∷ ShrSlice (named 1) (κs .1 .0) u8 ∷ u32 ∷ u32 ∷ ShrSlice (named 2) (κs .1 .1 .0) i32 ∷ MutSlice (named 3)
+      (κs .1 .1 .1 .0) X.the-row ∷ []
 
   abbrev passed : List Val
   passed = fv ∷ order-value order ∷ hv ∷ vint w32 rows ∷ vint w32 columns ∷ vv ∷ tv ∷ []
@@ -207,7 +237,8 @@ module _ (κs : Lfts 4) (a : Args self.signature κs) where
     Searches p = C #search (tv ∷ fv ∷ order-value order ∷ vint w64 (p .count) ∷ vint w64 (p .need) ∷ []) (Yields 𝓤 H X.the-row (Adds p))
 
     abbrev Plans : SProp 𝓤
-    Plans = C #plans (fv ∷ order-value order ∷ vint w64 headers ∷ vint w32 rows ∷ vint w32 columns ∷ vint w64 points ∷ vint w64 size ∷ []) (Yields 𝓤 H P.the-row Searches)
+    Plans = C #plans (fv ∷ order-value order ∷ vint w64 headers ∷ vint w32 rows ∷ vint w32 columns ∷ vint w64 points ∷ vint w64 size ∷ [])
+        (Yields 𝓤 H P.the-row Searches)
 
   -- ---- of the arguments' relations
   module _ (are : Related) where
@@ -229,36 +260,65 @@ module _ (κs : Lfts 4) (a : Args self.signature κs) where
   module _ {M : Type 1} (𝓤 : URA M) (H : Heap 𝓤) (A : Atoms 𝓤) (W : Given 𝓤 H A) (C : Calls 𝓤 H) (Λ : Loops 𝓤 H) (fm : FmC 𝓤 H (W .laws) C) where
     walk : Related → (Z : Val → SProp 𝓤) → ent 𝓤 (H .⇛ (Plans 𝓤 H C Z)) (WpFn 𝓤 H C Λ code.function passed Z)
     walk are Z =
-        qed W (later (raw (Plans 𝓤 H C Z)) ∷ []) ∵ starts W ! C Λ code.function passed Z
-        (mut-slice-lawful 𝓤 H A W (named 0) (κs .0) u8 .typed file _ (are .0) .0, (EL.lawful O.the-type O′.the-laws 𝓤 H A W tt .typed order _ (are .1 .0) .0, (shr-slice-lawful 𝓤 H A W (named 1) (κs .1 .0) u8 .typed header _ (are .1 .1 .0) .0,
-        (uint-lawful 𝓤 H A W w32 .typed rows _ (are .1 .1 .1 .0) .0, (uint-lawful 𝓤 H A W w32 .typed columns _ (are .1 .1 .1 .1 .0) .0, (shr-slice-lawful 𝓤 H A W (named 2) (κs .1 .1 .0) i32 .typed values _ (are .1 .1 .1 .1 .1 .0) .0,
-        (mut-slice-lawful 𝓤 H A W (named 3) (κs .1 .1 .1 .0) X.the-row .typed table _ (table-is are) .0, tt))))))) (λ l.
+        qed W (later (raw (Plans 𝓤 H C Z)) ∷ []) ∵ starts W ! C Λ code.function passed Z (
+          mut-slice-lawful 𝓤 H A W (named 0) (κs .0) u8 .typed file _ (are .0) .0,
+          (
+            EL.lawful O.the-type O′.the-laws 𝓤 H A W tt .typed order _ (are .1 .0) .0,
+            (
+              shr-slice-lawful 𝓤 H A W (named 1) (κs .1 .0) u8 .typed header _ (are .1 .1 .0) .0,
+              (
+                uint-lawful 𝓤 H A W w32 .typed rows _ (are .1 .1 .1 .0) .0,
+                (
+                  uint-lawful 𝓤 H A W w32 .typed columns _ (are .1 .1 .1 .1 .0) .0,
+                  (
+                    shr-slice-lawful 𝓤 H A W (named 2) (κs .1 .1 .0) i32 .typed values _ (are .1 .1 .1 .1 .1 .0) .0,
+                    (mut-slice-lawful 𝓤 H A W (named 3) (κs .1 .1 .1 .0) X.the-row .typed table _ (table-is are) .0, tt),
+                  ),
+                ),
+              ),
+            ),
+          ),
+        ) (λ l.
         -- [the call; _0; …; _26; …]: local j stands at 1 + 2 · j
-        await ! tt $ assigns ! (addr ! (from ! (fld ! refl (hop ! (look-in ! 3 (sub ! 0 refl (whole !))) (stop !))))) (from ! (stop !)) (init ! 23 refl (tt, tt)) $ assigns ! (agg ! (and-then ! (at ! 23 refl) (and-then ! (load ! (from ! (fld ! refl (stop !))) (look-in ! 3 (sub ! 1 refl (whole !)))) (no-more !)))) (from ! (stop !)) (init ! 25 refl (tt, (tt, (record { fits = file-fits are }, tt)))) $
-        assigns ! (of-opd ! (load ! (from ! (fld ! refl (stop !))) (look-in ! 7 (sub ! 1 refl (whole !))))) (from ! (stop !)) (init ! 27 refl (tt, record { fits = header-fits are })) $ assigns ! (of-opd ! (load ! (from ! (fld ! refl (stop !))) (look-in ! 13 (sub ! 1 refl (whole !))))) (from ! (stop !)) (init ! 29 refl (tt, record { fits = values-fits are })) $ assigns ! (of-opd ! (load ! (from ! (fld ! refl (stop !))) (look-in ! 15 (sub ! 1 refl (whole !))))) (from ! (stop !)) (init ! 31 refl (tt, record { fits = table-fits are })) $
-        calls ! fm (λ w. later (some (λ (p : AddPlan). given (Is P.the-row p (w ∷ [])) (raw (Searches 𝓤 H C Z p))))) (and-then ! (at ! 25 refl) (and-then ! (at ! 5 refl) (and-then ! (at ! 27 refl) (and-then ! (at ! 9 refl) (and-then ! (at ! 11 refl) (and-then ! (at ! 29 refl) (and-then ! (at ! 31 refl) (no-more !)))))))) (λ w.
+        await ! tt $ lends-on ! 3 23 25 refl refl refl refl refl refl (tt, tt) refl refl refl (tt, (tt, (record { fits = file-fits are }, tt))) $
+        assigns ! (of-opd ! (member ! 7 1 refl refl refl)) (from ! (stop !)) (init ! 27 refl (tt, record { fits = header-fits are })) $
+        assigns ! (of-opd ! (member ! 13 1 refl refl refl)) (from ! (stop !)) (init ! 29 refl (tt, record { fits = values-fits are })) $
+        assigns ! (of-opd ! (member ! 15 1 refl refl refl)) (from ! (stop !)) (init ! 31 refl (tt, record { fits = table-fits are })) $
+        calls ! fm (λ w. later (some (λ (p : AddPlan). given (Is P.the-row p (w ∷ [])) (raw (Searches 𝓤 H C Z p)))))
+        (and-then ! (at ! 25 refl) (and-then ! (at ! 5 refl)
+        (and-then ! (at ! 27 refl) (and-then ! (at ! 9 refl) (and-then ! (at ! 11 refl) (and-then ! (at ! 29 refl) (and-then ! (at ! 31 refl) (no-more !)))))))) (λ w.
         await ! tt $ pick ! (λ p. learn ! (λ ip. land ! (from ! (stop !)) (init ! 17 refl (LL.lawful P.the-type P′.the-laws 𝓤 H A W .typed p _ ip .0)) $
         rewrite ! 17 (cell 𝓤 H (env 𝓤 H (code.function .locals) l) 8) (ap only (LL.tells P.the-type P′.the-laws p (w ∷ []) ip)) refl $
-        assigns ! (addr ! (from ! (fld ! refl (hop ! (look-in ! 15 (sub ! 0 refl (whole !))) (stop !))))) (from ! (stop !)) (init ! 33 refl (tt, tt)) $ assigns ! (agg ! (and-then ! (at ! 33 refl) (and-then ! (load ! (from ! (fld ! refl (stop !))) (look-in ! 15 (sub ! 1 refl (whole !)))) (no-more !)))) (from ! (stop !)) (init ! 35 refl (tt, (tt, (record { fits = table-fits are }, tt)))) $
-        assigns ! (addr ! (from ! (fld ! refl (hop ! (look-in ! 3 (sub ! 0 refl (whole !))) (stop !))))) (from ! (stop !)) (init ! 37 refl (tt, tt)) $ assigns ! (agg ! (and-then ! (at ! 37 refl) (and-then ! (load ! (from ! (fld ! refl (stop !))) (look-in ! 3 (sub ! 1 refl (whole !)))) (no-more !)))) (from ! (stop !)) (init ! 39 refl (tt, (tt, (record { fits = file-fits are }, tt)))) $
-        calls ! fm (λ x. later (some (λ (e : Extent). given (Is X.the-row e (x ∷ [])) (raw (Adds 𝓤 H C Z p e))))) (and-then ! (at ! 35 refl) (and-then ! (at ! 39 refl) (and-then ! (at ! 5 refl) (and-then ! (load ! (from ! (fld ! refl (stop !))) (look-in ! 17 (sub ! 3 refl (whole !)))) (and-then ! (load ! (from ! (fld ! refl (stop !))) (look-in ! 17 (sub ! 2 refl (whole !)))) (no-more !)))))) (λ x.
+        lends-on ! 15 33 35 refl refl refl refl refl refl (tt, tt) refl refl refl (tt, (tt, (record { fits = table-fits are }, tt))) $
+        lends-on ! 3 37 39 refl refl refl refl refl refl (tt, tt) refl refl refl (tt, (tt, (record { fits = file-fits are }, tt))) $
+        calls ! fm (λ x. later (some (λ (e : Extent). given (Is X.the-row e (x ∷ [])) (raw (Adds 𝓤 H C Z p e)))))
+        (and-then ! (at ! 35 refl) (and-then ! (at ! 39 refl)
+        (and-then ! (at ! 5 refl) (and-then ! (member ! 17 3 refl refl refl) (and-then ! (member ! 17 2 refl refl refl) (no-more !)))))) (λ x.
         await ! tt $ pick ! (λ e. learn ! (λ ie. land ! (from ! (stop !)) (init ! 19 refl (LL.lawful X.the-type X′.the-laws 𝓤 H A W .typed e _ ie .0)) $
         rewrite ! 19 (cell 𝓤 H (env 𝓤 H (code.function .locals) l) 9) (ap only (LL.tells X.the-type X′.the-laws e (x ∷ []) ie)) refl $
-        assigns ! (addr ! (from ! (fld ! refl (hop ! (look-in ! 3 (sub ! 0 refl (whole !))) (stop !))))) (from ! (stop !)) (init ! 41 refl (tt, tt)) $ assigns ! (agg ! (and-then ! (at ! 41 refl) (and-then ! (load ! (from ! (fld ! refl (stop !))) (look-in ! 3 (sub ! 1 refl (whole !)))) (no-more !)))) (from ! (stop !)) (init ! 43 refl (tt, (tt, (record { fits = file-fits are }, tt)))) $
-        assigns ! (of-opd ! (load ! (from ! (fld ! refl (stop !))) (look-in ! 15 (sub ! 1 refl (whole !))))) (from ! (stop !)) (store ! 27 refl (tt, record { fits = table-fits are })) $
-        calls ! fm (λ y. later (some (λ (d : Addition). given (Is D.the-row d (y ∷ [])) (raw (Fills 𝓤 H C Z d))))) (and-then ! (at ! 43 refl) (and-then ! (at ! 5 refl) (and-then ! (at ! 7 refl) (and-then ! (at ! 9 refl) (and-then ! (at ! 11 refl) (and-then ! (at ! 13 refl) (and-then ! (at ! 27 refl) (and-then ! (at ! 17 refl) (and-then ! (at ! 19 refl) (no-more !)))))))))) (λ y.
+        lends-on ! 3 41 43 refl refl refl refl refl refl (tt, tt) refl refl refl (tt, (tt, (record { fits = file-fits are }, tt))) $
+        assigns ! (of-opd ! (member ! 15 1 refl refl refl)) (from ! (stop !)) (store ! 27 refl (tt, record { fits = table-fits are })) $
+        calls ! fm (λ y. later (some (λ (d : Addition). given (Is D.the-row d (y ∷ [])) (raw (Fills 𝓤 H C Z d)))))
+        (and-then ! (at ! 43 refl) (and-then ! (at ! 5 refl)
+        (and-then ! (at ! 7 refl) (and-then ! (at ! 9 refl)
+        (and-then ! (at ! 11 refl) (and-then ! (at ! 13 refl) (and-then ! (at ! 27 refl) (and-then ! (at ! 17 refl) (and-then ! (at ! 19 refl) (no-more !))))))))))
+        (λ y.
         await ! tt $ pick ! (λ d. learn ! (λ is. land ! (from ! (stop !)) (init ! 21 refl (LL.lawful D.the-type D′.the-laws 𝓤 H A W .typed d _ is .0)) $
         rewrite ! 21 (cell 𝓤 H (env 𝓤 H (code.function .locals) l) 10) (ap only (LL.tells D.the-type D′.the-laws d (y ∷ []) is)) refl $
-        assigns ! (addr ! (from ! (fld ! refl (hop ! (look-in ! 15 (sub ! 0 refl (whole !))) (stop !))))) (from ! (stop !)) (init ! 47 refl (tt, tt)) $ assigns ! (agg ! (and-then ! (at ! 47 refl) (and-then ! (load ! (from ! (fld ! refl (stop !))) (look-in ! 15 (sub ! 1 refl (whole !)))) (no-more !)))) (from ! (stop !)) (init ! 49 refl (tt, (tt, (record { fits = table-fits are }, tt)))) $
-        assigns ! (addr ! (from ! (fld ! refl (hop ! (look-in ! 3 (sub ! 0 refl (whole !))) (stop !))))) (from ! (stop !)) (init ! 51 refl (tt, tt)) $ assigns ! (agg ! (and-then ! (at ! 51 refl) (and-then ! (load ! (from ! (fld ! refl (stop !))) (look-in ! 3 (sub ! 1 refl (whole !)))) (no-more !)))) (from ! (stop !)) (init ! 53 refl (tt, (tt, (record { fits = file-fits are }, tt)))) $
-        calls ! fm (λ u. later (some (λ (r : Unit {0}). given (Is Nothing r (u ∷ [])) (raw (Z (answer (d .answer))))))) (and-then ! (at ! 49 refl) (and-then ! (at ! 53 refl) (and-then ! (at ! 5 refl) (and-then ! (load ! (from ! (fld ! refl (stop !))) (look-in ! 21 (sub ! 1 refl (whole !)))) (no-more !))))) (λ u.
+        lends-on ! 15 47 49 refl refl refl refl refl refl (tt, tt) refl refl refl (tt, (tt, (record { fits = table-fits are }, tt))) $
+        lends-on ! 3 51 53 refl refl refl refl refl refl (tt, tt) refl refl refl (tt, (tt, (record { fits = file-fits are }, tt))) $
+        calls ! fm (λ u. later (some (λ (r : Unit {0}). given (Is Nothing r (u ∷ [])) (raw (Z (answer (d .answer)))))))
+        (and-then ! (at ! 49 refl) (and-then ! (at ! 53 refl) (and-then ! (at ! 5 refl) (and-then ! (member ! 21 1 refl refl refl) (no-more !))))) (λ u.
         await ! tt $ pick ! (λ r. learn ! (λ ir. land ! (from ! (stop !)) (init ! 45 refl (nothing-lawful 𝓤 H A W .typed r _ ir .0)) $
-        assigns ! (of-opd ! (load ! (from ! (fld ! refl (stop !))) (look-in ! 21 (sub ! 0 refl (whole !))))) (from ! (stop !)) (init ! 1 refl (EL.lawful S.the-type S′.the-laws 𝓤 H A W tt .typed (d .answer) _ (parts d y is .0) .0)) $
+        assigns ! (of-opd ! (member ! 21 0 refl refl refl)) (from ! (stop !))
+        (init ! 1 refl (EL.lawful S.the-type S′.the-laws 𝓤 H A W tt .typed (d .answer) _ (parts d y is .0) .0)) $
         returns ! (look ! 1 refl) $ frees-all W ! (_ ∷ []) (env 𝓤 H (code.function .locals) l)
-        (holds _ ∷ holds _ ∷ holds _ ∷ holds _ ∷ holds _ ∷ holds _ ∷ holds _ ∷ holds _ ∷ holds _ ∷ holds _ ∷ holds _ ∷ holds _ ∷ holds _ ∷ holds _ ∷ holds _ ∷ holds _ ∷ holds _ ∷ holds _ ∷ holds _ ∷ holds _ ∷ holds _ ∷ holds _ ∷ holds _ ∷ holds _ ∷ holds _ ∷ holds _ ∷ holds _ ∷ []) (done !))))))))))))))
+        (holds _ ∷ holds _ ∷ holds _ ∷ holds _ ∷ holds _ ∷ holds _ ∷ holds _ ∷ holds _ ∷ holds _ ∷ holds _ ∷ holds _ ∷ holds _ ∷ holds _ ∷ holds _ ∷
+        holds _ ∷ holds _ ∷ holds _ ∷ holds _ ∷ holds _ ∷ holds _ ∷ holds _ ∷ holds _ ∷ holds _ ∷ holds _ ∷ holds _ ∷ holds _ ∷ holds _ ∷ []) (done !))))))))))))))
 
   -- ---- what comes of the calls
-  module _ {M : Type 1} (𝓤 : URA M) (H : Heap 𝓤) (A : Atoms 𝓤) (W : Given 𝓤 H A) (mem : Memory → SProp 𝓤) (runs : Routine → Fun 𝓤) (qs : Shares 4) (are : Related) (C : Calls 𝓤 H) (fm : FmC 𝓤 H (W .laws) C) where
+  module _ {M : Type 1} (𝓤 : URA M) (H : Heap 𝓤) (A : Atoms 𝓤) (W : Given 𝓤 H A) (mem : Memory → SProp 𝓤) (runs : Routine → Fun 𝓤) (qs : Shares 4) (are : Related)
+      (C : Calls 𝓤 H) (fm : FmC 𝓤 H (W .laws) C) where
     abbrev File : List ℕ → Fml
     File = Holds u8 (named 0) (κs .0) (qs .0) file fv
 
@@ -284,7 +344,8 @@ module _ (κs : Lfts 4) (a : Args self.signature κs) where
     abbrev Post : Val → SProp 𝓤
     Post = walkOf 𝓤 H A self.ended stayed (self.clauses 𝓤 H A mem runs) .post ((κs, qs, tt, a, vals), tt)
 
-    -- what the callees say: `plan_add` of its plan p, `search` of the extent e and of the table t that it leaves, and `add_at` of the addition d and of the file g that it leaves
+    -- what the callees say: `plan_add` of its plan p, `search` of the extent e that it finds and of the table t that it leaves, and `add_at` of the addition d and of
+    -- the file g that it leaves
     abbrev Planned : AddPlan → Type 0
     Planned p = p ≡ addPlan order (now file) headers rows columns points size
 
@@ -295,92 +356,154 @@ module _ (κs : Lfts 4) (a : Args self.signature κs) where
     Said d g = (additionSays d, g) ≡ addStep order (now file) (now header) rows columns (now values) size
 
     planned : Triple 𝓤 (C #plans) (Planning 𝓤 H A mem runs) → ent 𝓤 (sem 𝓤 H A (File (now file)))
-        (H .⇛ (C #plans (fv ∷ order-value order ∷ vint w64 headers ∷ vint w32 rows ∷ vint w32 columns ∷ vint w64 points ∷ vint w64 size ∷ []) (Yields 𝓤 H P.the-row (λ p. guard 𝓤 (Planned p) (sem 𝓤 H A (File (now file)))))))
-    planned known = shares-file (named 0) (κs .0) (qs .0) file fv 𝓤 H A W C fm (now file) (order-slot ∷ size-slot ∷ number-slot ∷ number-slot ∷ size-slot ∷ size-slot ∷ []) (yes, (yes, (yes, (yes, (yes, (yes, tt)))))) P.the-row
+        (H .⇛ (C #plans (fv ∷ order-value order ∷ vint w64 headers ∷ vint w32 rows ∷ vint w32 columns ∷ vint w64 points ∷ vint w64 size ∷ [])
+        (Yields 𝓤 H P.the-row (λ p. guard 𝓤 (Planned p) (sem 𝓤 H A (File (now file)))))))
+    planned known = shares-file (named 0) (κs .0) (qs .0) file fv 𝓤 H A W C fm (now file)
+        (order-slot ∷ size-slot ∷ number-slot ∷ number-slot ∷ size-slot ∷ size-slot ∷ []) (yes, (yes, (yes, (yes, (yes, (yes, tt)))))) P.the-row
         (plans.clauses 𝓤 H A mem runs) (λ _. (order, (headers, (rows, (columns, (points, (size, tt))))))) #plans known
         (λ _. (order-value order ∷ [], (vint w64 headers ∷ [], (vint w32 rows ∷ [], (vint w32 columns ∷ [], (vint w64 points ∷ [], (vint w64 size ∷ [], tt)))))))
         (order-value order ∷ vint w64 headers ∷ vint w32 rows ∷ vint w32 columns ∷ vint w64 points ∷ vint w64 size ∷ []) (λ _. refl)
-        (λ _. qed W [] ∵ nothing ! $ owned ! usize (Is usize) (uint-makes 𝓤 H A W w64) size _ (refl, table-fits are) $ fjoin ! $ owned ! usize (Is usize) (uint-makes 𝓤 H A W w64) points _ (refl, values-fits are) $ fjoin ! $
-        owned ! u32 (Is u32) (uint-makes 𝓤 H A W w32) columns _ (are .1 .1 .1 .1 .0) $ fjoin ! $ owned ! u32 (Is u32) (uint-makes 𝓤 H A W w32) rows _ (are .1 .1 .1 .0) $ fjoin ! $
-        owned ! usize (Is usize) (uint-makes 𝓤 H A W w64) headers _ (refl, header-fits are) $ fjoin ! $ owned ! O.the-row (Is O.the-row) (makes-order 𝓤 H A) order _ (are .1 .0) $ fjoin ! $ done !)
+        (λ _. qed W [] ∵ nothing ! $ owned ! usize (Is usize) (uint-makes 𝓤 H A W w64) size _ (refl, table-fits are) $ fjoin ! $
+        owned ! usize (Is usize) (uint-makes 𝓤 H A W w64) points _ (refl, values-fits are) $ fjoin ! $
+        owned ! u32 (Is u32) (uint-makes 𝓤 H A W w32) columns _ (are .1 .1 .1 .1 .0) $ fjoin ! $
+        owned ! u32 (Is u32) (uint-makes 𝓤 H A W w32) rows _ (are .1 .1 .1 .0) $ fjoin ! $
+        owned ! usize (Is usize) (uint-makes 𝓤 H A W w64) headers _ (refl, header-fits are) $ fjoin ! $
+        owned ! O.the-row (Is O.the-row) (makes-order 𝓤 H A) order _ (are .1 .0) $ fjoin ! $ done !)
         (λ μ ε. tt) (λ μ ε. id⊢ 𝓤 _) Planned (λ μ ε p e. id⊢ 𝓤 _)
 
-    found : Triple 𝓤 (C #search) (Searching 𝓤 H A mem runs) → (p : AddPlan) → Is usize (p .count) (vint w64 (p .count) ∷ []) × Is usize (p .need) (vint w64 (p .need) ∷ []) → Planned p
+    found : Triple 𝓤 (C #search) (Searching 𝓤 H A mem runs) → (p : AddPlan)
+        → Is usize (p .count) (vint w64 (p .count) ∷ []) × Is usize (p .need) (vint w64 (p .need) ∷ []) → Planned p
         → ent 𝓤 (⋆ 𝓤 H A (‵ (Table (now table)) ∷ ‵ (File (now file)) ∷ []))
-        (H .⇛ (C #search (tv ∷ fv ∷ order-value order ∷ vint w64 (p .count) ∷ vint w64 (p .need) ∷ []) (Yields 𝓤 H X.the-row (λ e. ex 𝓤 (λ (t : List Extent). guard 𝓤 (Found p e t) (sep 𝓤 (sem 𝓤 H A (Table t)) (sem 𝓤 H A (File (now file)))))))))
-    found known p sizes eq = lends-both (named 0) (named 3) (κs .0) (κs .1 .1 .1 .0) (qs .0) (qs .1 .1 .1 .0) file table fv tv 𝓤 H A W C fm (now file) (now table) (order-slot ∷ size-slot ∷ size-slot ∷ []) (yes, (yes, (yes, tt))) X.the-row
-        (search.clauses 𝓤 H A mem runs) (λ _. (order, (p .count, (p .need, tt)))) #search known (λ _. (order-value order ∷ [], (vint w64 (p .count) ∷ [], (vint w64 (p .need) ∷ [], tt))))
+        (H .⇛ (C #search (tv ∷ fv ∷ order-value order ∷ vint w64 (p .count) ∷ vint w64 (p .need) ∷ [])
+        (Yields 𝓤 H X.the-row (λ e. ex 𝓤 (λ (t : List Extent). guard 𝓤 (Found p e t) (sep 𝓤 (sem 𝓤 H A (Table t)) (sem 𝓤 H A (File (now file)))))))))
+    found known p sizes eq = lends-both (named 0) (named 3) (κs .0) (κs .1 .1 .1 .0) (qs .0) (qs .1 .1 .1 .0) file table fv tv 𝓤 H A W C fm (now file) (now table)
+        (order-slot ∷ size-slot ∷ size-slot ∷ []) (yes, (yes, (yes, tt))) X.the-row
+        (search.clauses 𝓤 H A mem runs) (λ _. (order, (p .count, (p .need, tt)))) #search known
+        (λ _. (order-value order ∷ [], (vint w64 (p .count) ∷ [], (vint w64 (p .need) ∷ [], tt))))
         (order-value order ∷ vint w64 (p .count) ∷ vint w64 (p .need) ∷ []) (λ _. refl)
-        (λ _. qed W [] ∵ nothing ! $ owned ! usize (Is usize) (uint-makes 𝓤 H A W w64) (p .need) _ (sizes .1) $ fjoin ! $ owned ! usize (Is usize) (uint-makes 𝓤 H A W w64) (p .count) _ (sizes .0) $ fjoin ! $
+        (λ _. qed W [] ∵ nothing ! $ owned ! usize (Is usize) (uint-makes 𝓤 H A W w64) (p .need) _ (sizes .1) $ fjoin ! $
+        owned ! usize (Is usize) (uint-makes 𝓤 H A W w64) (p .count) _ (sizes .0) $ fjoin ! $
         owned ! O.the-row (Is O.the-row) (makes-order 𝓤 H A) order _ (are .1 .0) $ fjoin ! $ done !)
         (λ ν μ δ ε. tt) (λ ν μ δ ε. factI 𝓤 _ (emp 𝓤) (plan-may-fill order (now file) headers rows columns points (now table) p eq)) (Found p) (λ ν μ δ ε e z. id⊢ 𝓤 _)
 
-    added : Triple 𝓤 (C #adds) (Adding 𝓤 H A mem runs) → (p : AddPlan) (e : Extent) (t : List Extent) → Is P.the-row p (plan-value p ∷ []) → Is X.the-row e (value e ∷ []) → Planned p → Found p e t
+    added : Triple 𝓤 (C #adds) (Adding 𝓤 H A mem runs) → (p : AddPlan) (e : Extent) (t : List Extent) → Is P.the-row p (plan-value p ∷ [])
+        → Is X.the-row e (value e ∷ []) → Planned p → Found p e t
         → ent 𝓤 (⋆ 𝓤 H A (‵ (File (now file)) ∷ raw (toks 𝓤 A 2 κs′ qs′) ∷ raw (sep 𝓤 (sem 𝓤 H A Header) (sem 𝓤 H A Values)) ∷ []))
         (H .⇛ (C #adds (fv ∷ order-value order ∷ hv ∷ vint w32 rows ∷ vint w32 columns ∷ vv ∷ vint w64 size ∷ plan-value p ∷ value e ∷ [])
         (Yields 𝓤 H D.the-row (λ d. ex 𝓤 (λ (g : List ℕ). guard 𝓤 (Said d g) (sep 𝓤 (sem 𝓤 H A (File g)) (toks 𝓤 A 2 κs′ qs′)))))))
     added known p e t ip ie eq-p eq-t =
         lends-file (named 0) (κs .0) (qs .0) file fv 𝓤 H A W C fm (now file) 2 κs′ qs′
-        (order-slot ∷ shrSliceOf (1 ∷ []) tt (plain (λ _. u8)) ∷ number-slot ∷ number-slot ∷ shrSliceOf (2 ∷ []) tt (plain (λ _. i32)) ∷ size-slot ∷ plain (λ _. P.the-row) ∷ plain (λ _. X.the-row) ∷ [])
-        (yes, (yes, (yes, (yes, (yes, (yes, (yes, (yes, tt)))))))) D.the-row (adds.clauses 𝓤 H A mem runs) (λ _. (order, (header, (rows, (columns, (values, (size, (p, (e, tt))))))))) #adds known
-        (λ _. (order-value order ∷ [], (hv ∷ [], (vint w32 rows ∷ [], (vint w32 columns ∷ [], (vv ∷ [], (vint w64 size ∷ [], (plan-value p ∷ [], (value e ∷ [], tt)))))))))
-        (order-value order ∷ hv ∷ vint w32 rows ∷ vint w32 columns ∷ vv ∷ vint w64 size ∷ plan-value p ∷ value e ∷ []) (λ _. refl) (sep 𝓤 (sem 𝓤 H A Header) (sem 𝓤 H A Values))
-        (λ _. qed W ((‵ Header ⊛ ‵ Values) ∷ []) ∵ split ! $ nothing ! $ owned ! X.the-row (Is X.the-row) (makes 𝓤 H A) e _ ie $ fjoin ! $ owned ! P.the-row (Is P.the-row) (LL.makes P.the-type P′.the-plain 𝓤 H A) p _ ip $ fjoin ! $
-        owned ! usize (Is usize) (uint-makes 𝓤 H A W w64) size _ (refl, table-fits are) $ fjoin ! $ move ! (2 ∷ 0 ∷ []) $ fjoin ! $ owned ! u32 (Is u32) (uint-makes 𝓤 H A W w32) columns _ (are .1 .1 .1 .1 .0) $ fjoin ! $
-        owned ! u32 (Is u32) (uint-makes 𝓤 H A W w32) rows _ (are .1 .1 .1 .0) $ fjoin ! $ move ! (1 ∷ 0 ∷ []) $ fjoin ! $ owned ! O.the-row (Is O.the-row) (makes-order 𝓤 H A) order _ (are .1 .0) $ fjoin ! $ done !)
+        (order-slot ∷ shrSliceOf (1 ∷ []) tt (plain (λ _. u8)) ∷ number-slot ∷ number-slot ∷ shrSliceOf (2 ∷ []) tt (plain (λ _. i32)) ∷ size-slot
+        ∷ plain (λ _. P.the-row) ∷ plain (λ _. X.the-row) ∷ [])
+        (yes, (yes, (yes, (yes, (yes, (yes, (yes, (yes, tt)))))))) D.the-row (adds.clauses 𝓤 H A mem runs)
+        (λ _. (order, (header, (rows, (columns, (values, (size, (p, (e, tt))))))))) #adds known
+        (λ _. (
+          order-value order ∷ [],
+          (
+            hv ∷ [],
+            (
+              vint w32 rows ∷ [],
+              (vint w32 columns ∷ [], (vv ∷ [], (vint w64 size ∷ [], (plan-value p ∷ [], (value e ∷ [], tt))))),
+            ),
+          ),
+        ))
+        (order-value order ∷ hv ∷ vint w32 rows ∷ vint w32 columns ∷ vv ∷ vint w64 size ∷ plan-value p ∷ value e ∷ []) (λ _. refl)
+        (sep 𝓤 (sem 𝓤 H A Header) (sem 𝓤 H A Values))
+        (λ _. qed W ((‵ Header ⊛ ‵ Values) ∷ []) ∵ split ! $ nothing ! $ owned ! X.the-row (Is X.the-row) (makes 𝓤 H A) e _ ie $ fjoin ! $
+        owned ! P.the-row (Is P.the-row) (LL.makes P.the-type P′.the-plain 𝓤 H A) p _ ip $ fjoin ! $
+        owned ! usize (Is usize) (uint-makes 𝓤 H A W w64) size _ (refl, table-fits are) $ fjoin ! $ move ! (2 ∷ 0 ∷ []) $ fjoin ! $
+        owned ! u32 (Is u32) (uint-makes 𝓤 H A W w32) columns _ (are .1 .1 .1 .1 .0) $ fjoin ! $
+        owned ! u32 (Is u32) (uint-makes 𝓤 H A W w32) rows _ (are .1 .1 .1 .0) $ fjoin ! $ move ! (1 ∷ 0 ∷ []) $ fjoin ! $
+        owned ! O.the-row (Is O.the-row) (makes-order 𝓤 H A) order _ (are .1 .0) $ fjoin ! $ done !)
         (λ ν δ. tt) (λ ν δ. factI 𝓤 _ (emp 𝓤) (plan-ready order (now file) (now header) rows columns (now values) (now table) p e eq-p
         (ap (λ (z : Extent × List Extent). z .0) eq-t))) Said (λ ν δ d z. id⊢ 𝓤 _)
 
     -- at the end: the answer of d, the file g, and the table t′, which was t after the search
-    exits : (p : AddPlan) (d : Addition) (w : Val) (g : List ℕ) (t t′ : List Extent) → Is D.the-row d (w ∷ []) → Planned p → t ≡ runsOver order (now file) (p .count) (now table) → Said d g → t′ ≡ runsOver order g (d .count) t
+    exits : (p : AddPlan) (d : Addition) (w : Val) (g : List ℕ) (t t′ : List Extent) → Is D.the-row d (w ∷ []) → Planned p
+        → t ≡ runsOver order (now file) (p .count) (now table) → Said d g → t′ ≡ runsOver order g (d .count) t
         → ent 𝓤 (⋆ 𝓤 H A (‵ (Table t′) ∷ ‵ (File g) ∷ Tokens ∷ [])) (Post (answer (d .answer)))
     exits p d w g t t′ is eq-p eq-t eq filled-is =
-        qed W (‵ (Table t′) ∷ ‵ (File g) ∷ Tokens ∷ []) ∵ counts X.the-row (named 3) (κs .1 .1 .1 .0) (qs .1 .1 .1 .0) table tv ! t′ (table-is are) (λ table-length. move ! (2 ∷ []) $
+        qed W (‵ (Table t′) ∷ ‵ (File g) ∷ Tokens ∷ []) ∵ counts X.the-row (named 3) (κs .1 .1 .1 .0) (qs .1 .1 .1 .0) table tv ! t′ (table-is are)
+        (λ table-length. move ! (2 ∷ []) $
         counts u8 (named 0) (κs .0) (qs .0) file fv ! g (are .0) (λ file-length.
         -- [what the file owns; its token; what the table owns; its token; the other tokens]
-        suffices ! _ (ends-at 𝓤 H A self.ended stayed (self.clauses 𝓤 H A mem runs) W ((κs, qs, tt, a, vals), tt) (answer (d .answer)) (d .answer) (g, (tt, (tt, (tt, (tt, (tt, (t′, tt)))))))
+        suffices ! _ (ends-at 𝓤 H A self.ended stayed (self.clauses 𝓤 H A mem runs) W ((κs, qs, tt, a, vals), tt) (answer (d .answer)) (d .answer)
+        (g, (tt, (tt, (tt, (tt, (tt, (t′, tt)))))))
         (file-length, (tt, (tt, (tt, (tt, (tt, (table-length, tt)))))))) $
         says ! (rw (filled-is, eq-t) (add-done order (now file) (now header) rows columns (now values) (now table) p d g eq-p eq)) $
-        move ! (4 ∷ []) $ split ! $ move ! (1 ∷ []) $ split ! $ move ! (6 ∷ 1 ∷ []) $ join ! $ move ! (1 ∷ 0 ∷ []) $ join ! $ move ! (1 ∷ 0 ∷ []) $ join ! $ move ! (2 ∷ 0 ∷ []) $ join ! $ frame ! $
-        nothing ! $ move ! (2 ∷ 0 ∷ []) $ fjoin ! $ nothing ! $ fjoin ! $ nothing ! $ fjoin ! $ nothing ! $ fjoin ! $ nothing ! $ fjoin ! $ nothing ! $ fjoin ! $ move ! (1 ∷ 0 ∷ []) $ fjoin ! $ frame ! $
+        move ! (4 ∷ []) $ split ! $ move ! (1 ∷ []) $ split ! $ move ! (6 ∷ 1 ∷ []) $ join ! $ move ! (1 ∷ 0 ∷ []) $ join ! $ move ! (1 ∷ 0 ∷ []) $ join ! $
+        move ! (2 ∷ 0 ∷ []) $ join ! $ frame ! $
+        nothing ! $ move ! (2 ∷ 0 ∷ []) $ fjoin ! $ nothing ! $ fjoin ! $ nothing ! $ fjoin ! $ nothing ! $ fjoin ! $ nothing ! $ fjoin ! $ nothing ! $ fjoin ! $
+        move ! (1 ∷ 0 ∷ []) $ fjoin ! $ frame ! $
         owned ! S.the-row (Is S.the-row) (EL.makes S.the-type S′.the-plain 𝓤 H A) (d .answer) _ (parts d w is .0) $ done !))
 
-    runs-through : Triple 𝓤 (C #plans) (Planning 𝓤 H A mem runs) → Triple 𝓤 (C #search) (Searching 𝓤 H A mem runs) → Triple 𝓤 (C #adds) (Adding 𝓤 H A mem runs) → Triple 𝓤 (C #fill) (Filling 𝓤 H A mem runs)
+    runs-through : Triple 𝓤 (C #plans) (Planning 𝓤 H A mem runs) → Triple 𝓤 (C #search) (Searching 𝓤 H A mem runs) → Triple 𝓤 (C #adds) (Adding 𝓤 H A mem runs)
+        → Triple 𝓤 (C #fill) (Filling 𝓤 H A mem runs)
         → ent 𝓤 (onEntry 𝓤 H A self.signature κs qs a vals) (H .⇛ (Plans 𝓤 H C Post))
     runs-through known-plans known-search known-adds known-fill =
-        qed W ((‵ (flft (κs .0) (qs .0)) ⊛ ‵ (flft (κs .1 .0) (qs .1 .0)) ⊛ ‵ (flft (κs .1 .1 .0) (qs .1 .1 .0)) ⊛ ‵ (flft (κs .1 .1 .1 .0) (qs .1 .1 .1 .0)) ⊛ ‵ ftrue) ∷ ‵ (owns rows-of a vals) ∷ []) ∵ updating ! $
+        qed W ((‵ (flft (κs .0) (qs .0)) ⊛ ‵ (flft (κs .1 .0) (qs .1 .0)) ⊛ ‵ (flft (κs .1 .1 .0) (qs .1 .1 .0)) ⊛ ‵ (flft (κs .1 .1 .1 .0) (qs .1 .1 .1 .0)) ⊛ ‵ ftrue)
+        ∷ ‵ (owns rows-of a vals) ∷ []) ∵ updating ! $
         split ! $ move ! (1 ∷ []) $ split ! $ move ! (1 ∷ []) $ split ! $ move ! (1 ∷ []) $ split ! $
         -- [the table's token; true; the values'; the header's; the file's; what the parameters own]
-        move ! (5 ∷ []) $ fsplit ! $ move ! (0 ∷ 6 ∷ []) $ fjoin ! $ move ! (1 ∷ []) $ fsplit ! $ drop ! $ fsplit ! $ move ! (1 ∷ []) $ fsplit ! $ drop ! $ fsplit ! $ drop ! $ fsplit ! $ move ! (1 ∷ []) $ fsplit ! $ move ! (0 ∷ 5 ∷ []) $ fjoin ! $
+        move ! (5 ∷ []) $ fsplit ! $ move ! (0 ∷ 6 ∷ []) $ fjoin ! $ move ! (1 ∷ []) $ fsplit ! $ drop ! $ fsplit ! $ move ! (1 ∷ []) $ fsplit ! $ drop ! $ fsplit ! $
+        drop ! $ fsplit ! $ move ! (1 ∷ []) $ fsplit ! $ move ! (0 ∷ 5 ∷ []) $ fjoin ! $
         -- [the table; true; what the values own; what the header owns; the file; true; the values' token; the header's]
         move ! (6 ∷ 5 ∷ []) $ join ! $ move ! (6 ∷ 0 ∷ []) $ join ! $ move ! (4 ∷ 3 ∷ []) $ join ! $ keep ! (4 ∷ 2 ∷ 1 ∷ 0 ∷ []) $
         -- [the file; the table; the tokens; what the header and the values own]
         use1 W (later (raw (C #plans _ _))) (planned known-plans) $ await ! tt $ at-once ! $ onward ! fm (λ w. updating ! $
-        use1 W (later (some (λ (p : AddPlan). given (Is P.the-row p (w ∷ [])) (given (Planned p) (‵ (File (now file))))))) (id⊢ 𝓤 _) $ await ! tt $ pick ! (λ p. learn ! (λ ip. learn ! (λ eq-p. move ! (1 ∷ 0 ∷ []) $
-        use2 W (later (raw (C #search _ _))) (found known-search p (plan-sizes p w ip) eq-p) $ await ! tt $ at-once ! $ show ! (λ (z : AddPlan). guard 𝓤 (Is P.the-row z (w ∷ [])) (Searches 𝓤 H C Post z)) p $ check ! ip $ onward ! fm (λ x. updating ! $
-        use1 W (later (some (λ (e : Extent). given (Is X.the-row e (x ∷ [])) (some (λ (t : List Extent). given (Found p e t) (‵ (Table t) ⊛ ‵ (File (now file)))))))) (id⊢ 𝓤 _) $ await ! tt $
-        pick ! (λ e. learn ! (λ ie. pick ! (λ t. learn ! (λ eq-t. split ! $ counts X.the-row (named 3) (κs .1 .1 .1 .0) (qs .1 .1 .1 .0) table tv ! t (table-is are) (λ as-long. fjoin ! $ move ! (1 ∷ 2 ∷ 3 ∷ []) $
+        use1 W (later (some (λ (p : AddPlan). given (Is P.the-row p (w ∷ [])) (given (Planned p) (‵ (File (now file))))))) (id⊢ 𝓤 _) $ await ! tt $
+        pick ! (λ p. learn ! (λ ip. learn ! (λ eq-p. move ! (1 ∷ 0 ∷ []) $
+        use2 W (later (raw (C #search _ _))) (found known-search p (plan-sizes p w ip) eq-p) $ await ! tt $ at-once ! $
+        show ! (λ (z : AddPlan). guard 𝓤 (Is P.the-row z (w ∷ [])) (Searches 𝓤 H C Post z)) p $ check ! ip $ onward ! fm (λ x. updating ! $
+        use1 W (later (some (λ (e : Extent). given (Is X.the-row e (x ∷ [])) (some (λ (t : List Extent). given (Found p e t) (‵ (Table t) ⊛ ‵ (File (now file))))))))
+        (id⊢ 𝓤 _) $ await ! tt $
+        pick ! (λ e. learn ! (λ ie. pick ! (λ t. learn ! (λ eq-t. split ! $
+        counts X.the-row (named 3) (κs .1 .1 .1 .0) (qs .1 .1 .1 .0) table tv ! t (table-is are) (λ as-long. fjoin ! $ move ! (1 ∷ 2 ∷ 3 ∷ []) $
         -- [the file; the tokens; what the header and the values own; the table]
-        use3 W (later (raw (C #adds _ _))) (added known-adds p e t (plan-is p w ip) (extent-is e x ie) eq-p eq-t) $ await ! tt $ at-once ! $ show ! (λ (z : Extent). guard 𝓤 (Is X.the-row z (x ∷ [])) (Adds 𝓤 H C Post p z)) e $ check ! ie $ onward ! fm (λ y. updating ! $
-        use1 W (later (some (λ (d : Addition). given (Is D.the-row d (y ∷ [])) (some (λ (g : List ℕ). given (Said d g) (‵ (File g) ⊛ Tokens)))))) (id⊢ 𝓤 _) $ await ! tt $ pick ! (λ d. learn ! (λ is. pick ! (λ g. learn ! (λ eq. split ! $
-        let may-fill = add-may-fill order (now file) (now header) rows columns (now values) (now table) p d g eq in
+        use3 W (later (raw (C #adds _ _))) (added known-adds p e t (plan-is p w ip) (extent-is e x ie) eq-p eq-t) $ await ! tt $ at-once ! $
+        show ! (λ (z : Extent). guard 𝓤 (Is X.the-row z (x ∷ [])) (Adds 𝓤 H C Post p z)) e $ check ! ie $ onward ! fm (λ y. updating ! $
+        use1 W (later (some (λ (d : Addition). given (Is D.the-row d (y ∷ [])) (some (λ (g : List ℕ). given (Said d g) (‵ (File g) ⊛ Tokens)))))) (id⊢ 𝓤 _) $
+        await ! tt $ pick ! (λ d. learn ! (λ is. pick ! (λ g. learn ! (λ eq. split ! $
+        let may-fill = add-may-fill order (now file) (now header) rows columns (now values) (now table) d g eq in
         -- [the file; the tokens; the table]
-        move ! (2 ∷ 0 ∷ []) $ use2 W (later (raw (C #fill _ _))) (fills (named 0) (named 3) (κs .0) (κs .1 .1 .1 .0) (qs .0) (qs .1 .1 .1 .0) file table fv tv 𝓤 H A W C fm g t mem runs order (order-value order) (d .count)
+        move ! (2 ∷ 0 ∷ []) $ use2 W (later (raw (C #fill _ _)))
+        (fills (named 0) (named 3) (κs .0) (κs .1 .1 .1 .0) (qs .0) (qs .1 .1 .1 .0) file table fv tv 𝓤 H A W C fm g t mem runs order (order-value order) (d .count)
         known-fill (are .1 .0) (parts d y is .1 .0) (subst (λ (m : ℕ). d .count ≤ m) (sym as-long) (may-fill .0), may-fill .1)) $ await ! tt $ at-once ! $
         show ! (λ (z : Addition). guard 𝓤 (Is D.the-row z (y ∷ [])) (Fills 𝓤 H C Post z)) d $ check ! is $ onward ! fm (λ u. updating ! $
-        use1 W (later (some (λ (r : Unit {0}). given (Is Nothing r (u ∷ [])) (some (λ (t′ : List Extent). given (t′ ≡ runsOver order g (d .count) t) (‵ (Table t′) ⊛ ‵ (File g))))))) (id⊢ 𝓤 _) $ await ! tt $
-        pick ! (λ r. learn ! (λ ir. pick ! (λ t′. learn ! (λ filled-is. split ! $ at-once ! $ show ! (λ (z : Unit {0}). guard 𝓤 (Is Nothing z (u ∷ [])) (Post (answer (d .answer)))) r $ check ! ir $
+        use1 W (later (some (λ (r : Unit {0}). given (Is Nothing r (u ∷ []))
+        (some (λ (t′ : List Extent). given (t′ ≡ runsOver order g (d .count) t) (‵ (Table t′) ⊛ ‵ (File g))))))) (id⊢ 𝓤 _) $ await ! tt $
+        pick ! (λ r. learn ! (λ ir. pick ! (λ t′. learn ! (λ filled-is. split ! $ at-once ! $
+        show ! (λ (z : Unit {0}). guard 𝓤 (Is Nothing z (u ∷ [])) (Post (answer (d .answer)))) r $ check ! ir $
         by ! (exits p d y g t t′ is eq-p (ap (λ (z : Extent × List Extent). z .1) eq-t) eq filled-is)))))))))))))))))))))
 
 module _ {M : Type 1} (𝓤 : URA M) (H : Heap 𝓤) (A : Atoms 𝓤) (W : Given 𝓤 H A) (mem : Memory → SProp 𝓤) (runs : Routine → Fun 𝓤) where
   walks : (C : Calls 𝓤 H) (Λ : Loops 𝓤 H) → FmC 𝓤 H (W .laws) C
-      → Triple 𝓤 (C #plans) (Planning 𝓤 H A mem runs) → Triple 𝓤 (C #search) (Searching 𝓤 H A mem runs) → Triple 𝓤 (C #adds) (Adding 𝓤 H A mem runs) → Triple 𝓤 (C #fill) (Filling 𝓤 H A mem runs)
+      → Triple 𝓤 (C #plans) (Planning 𝓤 H A mem runs) → Triple 𝓤 (C #search) (Searching 𝓤 H A mem runs) → Triple 𝓤 (C #adds) (Adding 𝓤 H A mem runs)
+      → Triple 𝓤 (C #fill) (Filling 𝓤 H A mem runs)
       → Walks 𝓤 H A self.ended stayed (WpFn 𝓤 H C Λ code.function) (self.clauses 𝓤 H A mem runs)
   walks C Λ fm known-plans known-search known-adds known-fill = walked 𝓤 H A self.ended stayed (self.clauses 𝓤 H A mem runs) (WpFn 𝓤 H C Λ code.function)
       (λ κs. (slice-vals, (EL.vals O.the-type O′.the-laws, (slice-vals, (uint-vals w32, (uint-vals w32, (slice-vals, (slice-vals, tt))))))))
-      (λ κs. (mut-slice-tells (named 0) (κs .0) u8, (EL.tells O.the-type O′.the-laws, (shr-slice-tells (named 1) (κs .1 .0) u8, (uint-tells w32, (uint-tells w32, (shr-slice-tells (named 2) (κs .1 .1 .0) i32,
-      (mut-slice-tells (named 3) (κs .1 .1 .1 .0) X.the-row, tt))))))))
-      (λ κs qs bounds a g are. via 𝓤 _ (fst∗ 𝓤 _ (emp 𝓤)) (via 𝓤 _ (runs-through κs a 𝓤 H A W mem runs qs are C fm known-plans known-search known-adds known-fill) (walk κs a 𝓤 H A W C Λ fm are _)))
+      (λ κs. (
+        mut-slice-tells (named 0) (κs .0) u8,
+        (
+          EL.tells O.the-type O′.the-laws,
+          (
+            shr-slice-tells (named 1) (κs .1 .0) u8,
+            (
+              uint-tells w32,
+              (
+                uint-tells w32,
+                (
+                  shr-slice-tells (named 2) (κs .1 .1 .0) i32,
+                  (mut-slice-tells (named 3) (κs .1 .1 .1 .0) X.the-row, tt),
+                ),
+              ),
+            ),
+          ),
+        ),
+      ))
+      (λ κs qs bounds a g are. via 𝓤 _ (fst∗ 𝓤 _ (emp 𝓤)) (via 𝓤 _ (runs-through κs a 𝓤 H A W mem runs qs are C fm known-plans known-search known-adds known-fill)
+      (walk κs a 𝓤 H A W C Λ fm are _)))
 
 pub add-spec : {M : Type 1} → statement M
 unfolding code.routine tablesOf

@@ -1,5 +1,5 @@
--- `grid_updates::delete` meets its contract: it calls `grid_writes::delete_in`, to which it lends the file as `&mut`, and then `extent_tables::fill`, to which it lends the table as `&mut` and the file
--- as `&`. First the code, which makes these calls; then what comes of the calls, with what the function holds.
+-- `grid_updates::delete` meets its contract: it calls `grid_writes::delete_in`, to which it lends the file as `&mut`, and then `extent_tables::fill`, to which it lends
+-- the table as `&mut` and the file as `&`. First the code, which makes these calls; then what comes of the calls, with what the function holds.
 -- Assumes nothing.
 use mathlib.Core.Path.{_≡_, refl, ap, subst}
 use Prim.Native.Nat.{ℕ}
@@ -18,8 +18,7 @@ use contract.Lifetimes.{Lfts, Shares}
 use contract.Monad.{Fun}
 use contract.Running.{givenOf, tables, tablesOf}
 use types.Kit.{Given, ‵, raw, _⊛_, given, ⋆, some, later, _$_, _∵_, !, qed, by, move, keep, drop, use1, use2, use3, split, join, learn, pick, rewrite, fsplit, fjoin, suffices, frame, await, updating, now as at-once, check, show, done}
-use types.Part.{agg, whole, sub, look-in}
-use types.Run.{look, init, stop, hop, fld, from, load, addr, of-opd, and-then, no-more, assigns, calls, land, returns}
+use types.Run.{look, init, stop, from, of-opd, and-then, no-more, assigns, calls, land, returns}
 use sound.Laws.{ofModel}
 use sound.WpLaws.{FmC, fmOf}
 use denote.RattleType.{owns}
@@ -29,7 +28,7 @@ use denote.Builtin.{u8, u32, usize}
 use denote.Exit.{yes}
 use denote.Ref.{RefT, now}
 use denote.Slice.{MutSlice, slice-vals, mut-slice-tells, mut-slice-lawful}
-use denote.Signature.{Slot, plain}
+use denote.Signature.{plain}
 use denote.Steps.{only, nothing, owned}
 use denote.Enum.Laws as EL
 use denote.Struct.Laws as LL
@@ -47,7 +46,7 @@ use Rattle.extents.specs.Steps.{runsOver}
 use Rattle.extents.specs.declared.Extent.{Extent}
 use Rattle.extents.proofs.Extent as X
 use Rattle.extent_tables.proofs.Extents.{order-value, makes-order, order-slot, size-slot}
-use Rattle.extent_tables.proofs.Locals.{Addresses, env, holds, cell, starts, frees-all, at}
+use Rattle.extent_tables.proofs.Locals.{env, holds, cell, starts, frees-all, at}
 use Rattle.extent_tables.proofs.Proved.{proved}
 use Rattle.extent_tables.proofs.fill.Met as fill-met
 use Rattle.extent_tables.proofs.fill.Symbol as fill-def
@@ -62,8 +61,9 @@ use Rattle.grid_writes.proofs.delete_in.Met as deletes-met
 use Rattle.grid_writes.proofs.delete_in.Symbol as deletes-def
 use Rattle.grid_writes.proofs.delete_in.Symbol.{name as #deletes}
 use Rattle.grid_updates.proofs.Calls.{Contracted, Yields, onward}
-use Rattle.grid_updates.proofs.FileCalls.{lends-file}
+use Rattle.grid_updates.proofs.FileCalls.{number-slot, lends-file}
 use Rattle.grid_updates.proofs.Held.{Holds, counts}
+use Rattle.grid_updates.proofs.Slices.{member, lends-on}
 use Rattle.grid_updates.proofs.TableCalls.{Filling, fills}
 use Rattle.grid_updates.proofs.delete as self
 use Rattle.grid_updates.proofs.delete.Code as code
@@ -78,17 +78,27 @@ abbrev answer : SizeAnswer → Val
 answer = EL.val S.the-type S′.the-laws
 
 -- the relations of a deletion's parts, from the deletion's own
-parts : (d : Deletion) (w : Val) → Is D.the-row d (w ∷ []) → Is S.the-row (d .answer) (answer (d .answer) ∷ []) × (Is usize (d .count) (vint w64 (d .count) ∷ []) × Unit {0})
+parts : (d : Deletion) (w : Val) → Is D.the-row d (w ∷ [])
+    → Is S.the-row (d .answer) (answer (d .answer) ∷ []) × (Is usize (d .count) (vint w64 (d .count) ∷ []) × Unit {0})
 parts d w is = LL.owed D.the-type D′.the-laws d (deletion d ∷ []) (subst (Is D.the-row d) (LL.tells D.the-type D′.the-laws d (w ∷ []) is) is)
 
-abbrev number-slot : {n : ℕ} → Slot n
-number-slot = plain (λ _. u32)
-
 abbrev stayed : Stays (self.ended .signature .params) (self.ended .kept)
-stayed = (stay-slice (0 ∷ []) tt (plain (λ _. u8)), (stay-dropped order-slot yes, (stay-dropped number-slot yes, (stay-slice (1 ∷ []) tt (plain (λ _. X.the-row)), tt))))
+stayed = (
+  stay-slice (0 ∷ []) tt (plain (λ _. u8)),
+  (
+    stay-dropped order-slot yes,
+    (stay-dropped number-slot yes, (stay-slice (1 ∷ []) tt (plain (λ _. X.the-row)), tt)),
+  ),
+)
 
 goes : {M : Type 1} (𝓤 : URA M) (H : Heap 𝓤) (A : Atoms 𝓤) (W : Given 𝓤 H A) → AllGo 𝓤 H A W 2 (self.ended .signature .params) (self.ended .kept) stayed
-goes 𝓤 H A W = (goes-slice 𝓤 H A W 2 0 tt (plain (λ _. u8)), (goes-dropped 𝓤 H A W 2 order-slot yes (λ κs x f. refl), (goes-dropped 𝓤 H A W 2 number-slot yes (λ κs x f. refl), (goes-slice 𝓤 H A W 2 1 tt (plain (λ _. X.the-row)), tt))))
+goes 𝓤 H A W = (
+  goes-slice 𝓤 H A W 2 0 tt (plain (λ _. u8)),
+  (
+    goes-dropped 𝓤 H A W 2 order-slot yes (λ κs x f. refl),
+    (goes-dropped 𝓤 H A W 2 number-slot yes (λ κs x f. refl), (goes-slice 𝓤 H A W 2 1 tt (plain (λ _. X.the-row)), tt)),
+  ),
+)
 
 -- the contract of `delete_in`
 abbrev Deleting : {M : Type 1} (𝓤 : URA M) (H : Heap 𝓤) (A : Atoms 𝓤) → (Memory → SProp 𝓤) → (Routine → Fun 𝓤) → Contract 𝓤
@@ -121,7 +131,8 @@ module _ (κs : Lfts 2) (a : Args self.signature κs) where
   vals = (fv ∷ [], (order-value order ∷ [], (vint w32 number ∷ [], (tv ∷ [], tt))))
 
   abbrev Related : Type 0
-  Related = Are (MutSlice (named 0) (κs .0) u8 ∷ O.the-row ∷ u32 ∷ MutSlice (named 1) (κs .1 .0) X.the-row ∷ []) (Ises (MutSlice (named 0) (κs .0) u8 ∷ O.the-row ∷ u32 ∷ MutSlice (named 1) (κs .1 .0) X.the-row ∷ [])) a vals
+  Related = Are (MutSlice (named 0) (κs .0) u8 ∷ O.the-row ∷ u32 ∷ MutSlice (named 1) (κs .1 .0) X.the-row ∷ [])
+      (Ises (MutSlice (named 0) (κs .0) u8 ∷ O.the-row ∷ u32 ∷ MutSlice (named 1) (κs .1 .0) X.the-row ∷ [])) a vals
 
   -- ---- the calls that the code makes, where Z is what is wanted of the function's answer
   module _ {M : Type 1} (𝓤 : URA M) (H : Heap 𝓤) (C : Calls 𝓤 H) (Z : Val → SProp 𝓤) where
@@ -134,25 +145,36 @@ module _ (κs : Lfts 2) (a : Args self.signature κs) where
   module _ {M : Type 1} (𝓤 : URA M) (H : Heap 𝓤) (A : Atoms 𝓤) (W : Given 𝓤 H A) (C : Calls 𝓤 H) (Λ : Loops 𝓤 H) (fm : FmC 𝓤 H (W .laws) C) where
     walk : Related → (Z : Val → SProp 𝓤) → ent 𝓤 (H .⇛ (Deletes 𝓤 H C Z)) (WpFn 𝓤 H C Λ code.function (fv ∷ order-value order ∷ vint w32 number ∷ tv ∷ []) Z)
     walk are Z =
-        qed W (later (raw (Deletes 𝓤 H C Z)) ∷ []) ∵ starts W ! C Λ code.function (fv ∷ order-value order ∷ vint w32 number ∷ tv ∷ []) Z
-        (mut-slice-lawful 𝓤 H A W (named 0) (κs .0) u8 .typed file _ (are .0) .0, (EL.lawful O.the-type O′.the-laws 𝓤 H A W tt .typed order _ (are .1 .0) .0,
-        (uint-lawful 𝓤 H A W w32 .typed number _ (are .1 .1 .0) .0, (mut-slice-lawful 𝓤 H A W (named 1) (κs .1 .0) X.the-row .typed table _ (are .1 .1 .1 .0) .0, tt)))) (λ l.
+        qed W (later (raw (Deletes 𝓤 H C Z)) ∷ []) ∵ starts W ! C Λ code.function (fv ∷ order-value order ∷ vint w32 number ∷ tv ∷ []) Z (
+          mut-slice-lawful 𝓤 H A W (named 0) (κs .0) u8 .typed file _ (are .0) .0,
+          (
+            EL.lawful O.the-type O′.the-laws 𝓤 H A W tt .typed order _ (are .1 .0) .0,
+            (
+              uint-lawful 𝓤 H A W w32 .typed number _ (are .1 .1 .0) .0,
+              (mut-slice-lawful 𝓤 H A W (named 1) (κs .1 .0) X.the-row .typed table _ (are .1 .1 .1 .0) .0, tt),
+            ),
+          ),
+        ) (λ l.
         -- [the call; _0; …; _13; …]: local j stands at 1 + 2 · j
-        await ! tt $ assigns ! (addr ! (from ! (fld ! refl (hop ! (look-in ! 3 (sub ! 0 refl (whole !))) (stop !))))) (from ! (stop !)) (init ! 13 refl (tt, tt)) $ assigns ! (agg ! (and-then ! (at ! 13 refl) (and-then ! (load ! (from ! (fld ! refl (stop !))) (look-in ! 3 (sub ! 1 refl (whole !)))) (no-more !)))) (from ! (stop !)) (init ! 15 refl (tt, (tt, (record { fits = are .0 .0 .1 .0 }, tt)))) $
-        assigns ! (of-opd ! (load ! (from ! (fld ! refl (stop !))) (look-in ! 9 (sub ! 1 refl (whole !))))) (from ! (stop !)) (init ! 17 refl (tt, record { fits = are .1 .1 .1 .0 .0 .1 .0 })) $
-        calls ! fm (λ w. later (some (λ (d : Deletion). given (Is D.the-row d (w ∷ [])) (raw (Fills 𝓤 H C Z d))))) (and-then ! (at ! 15 refl) (and-then ! (at ! 5 refl) (and-then ! (at ! 7 refl) (and-then ! (at ! 17 refl) (no-more !))))) (λ w.
+        await ! tt $ lends-on ! 3 13 15 refl refl refl refl refl refl (tt, tt) refl refl refl (tt, (tt, (record { fits = are .0 .0 .1 .0 }, tt))) $
+        assigns ! (of-opd ! (member ! 9 1 refl refl refl)) (from ! (stop !)) (init ! 17 refl (tt, record { fits = are .1 .1 .1 .0 .0 .1 .0 })) $
+        calls ! fm (λ w. later (some (λ (d : Deletion). given (Is D.the-row d (w ∷ [])) (raw (Fills 𝓤 H C Z d)))))
+        (and-then ! (at ! 15 refl) (and-then ! (at ! 5 refl) (and-then ! (at ! 7 refl) (and-then ! (at ! 17 refl) (no-more !))))) (λ w.
         await ! tt $ pick ! (λ d. learn ! (λ is. land ! (from ! (stop !)) (init ! 11 refl (LL.lawful D.the-type D′.the-laws 𝓤 H A W .typed d _ is .0)) $
         rewrite ! 11 (cell 𝓤 H (env 𝓤 H (code.function .locals) l) 5) (ap only (LL.tells D.the-type D′.the-laws d (w ∷ []) is)) refl $
-        assigns ! (addr ! (from ! (fld ! refl (hop ! (look-in ! 9 (sub ! 0 refl (whole !))) (stop !))))) (from ! (stop !)) (init ! 21 refl (tt, tt)) $ assigns ! (agg ! (and-then ! (at ! 21 refl) (and-then ! (load ! (from ! (fld ! refl (stop !))) (look-in ! 9 (sub ! 1 refl (whole !)))) (no-more !)))) (from ! (stop !)) (init ! 23 refl (tt, (tt, (record { fits = are .1 .1 .1 .0 .0 .1 .0 }, tt)))) $
-        assigns ! (addr ! (from ! (fld ! refl (hop ! (look-in ! 3 (sub ! 0 refl (whole !))) (stop !))))) (from ! (stop !)) (init ! 25 refl (tt, tt)) $ assigns ! (agg ! (and-then ! (at ! 25 refl) (and-then ! (load ! (from ! (fld ! refl (stop !))) (look-in ! 3 (sub ! 1 refl (whole !)))) (no-more !)))) (from ! (stop !)) (init ! 27 refl (tt, (tt, (record { fits = are .0 .0 .1 .0 }, tt)))) $
-        calls ! fm (λ u. later (some (λ (r : Unit {0}). given (Is Nothing r (u ∷ [])) (raw (Z (answer (d .answer))))))) (and-then ! (at ! 23 refl) (and-then ! (at ! 27 refl) (and-then ! (at ! 5 refl) (and-then ! (load ! (from ! (fld ! refl (stop !))) (look-in ! 11 (sub ! 1 refl (whole !)))) (no-more !))))) (λ u.
+        lends-on ! 9 21 23 refl refl refl refl refl refl (tt, tt) refl refl refl (tt, (tt, (record { fits = are .1 .1 .1 .0 .0 .1 .0 }, tt))) $
+        lends-on ! 3 25 27 refl refl refl refl refl refl (tt, tt) refl refl refl (tt, (tt, (record { fits = are .0 .0 .1 .0 }, tt))) $
+        calls ! fm (λ u. later (some (λ (r : Unit {0}). given (Is Nothing r (u ∷ [])) (raw (Z (answer (d .answer)))))))
+        (and-then ! (at ! 23 refl) (and-then ! (at ! 27 refl) (and-then ! (at ! 5 refl) (and-then ! (member ! 11 1 refl refl refl) (no-more !))))) (λ u.
         await ! tt $ pick ! (λ r. learn ! (λ ir. land ! (from ! (stop !)) (init ! 19 refl (nothing-lawful 𝓤 H A W .typed r _ ir .0)) $
-        assigns ! (of-opd ! (load ! (from ! (fld ! refl (stop !))) (look-in ! 11 (sub ! 0 refl (whole !))))) (from ! (stop !)) (init ! 1 refl (EL.lawful S.the-type S′.the-laws 𝓤 H A W tt .typed (d .answer) _ (parts d w is .0) .0)) $
+        assigns ! (of-opd ! (member ! 11 0 refl refl refl)) (from ! (stop !))
+        (init ! 1 refl (EL.lawful S.the-type S′.the-laws 𝓤 H A W tt .typed (d .answer) _ (parts d w is .0) .0)) $
         returns ! (look ! 1 refl) $ frees-all W ! (_ ∷ []) (env 𝓤 H (code.function .locals) l)
         (holds _ ∷ holds _ ∷ holds _ ∷ holds _ ∷ holds _ ∷ holds _ ∷ holds _ ∷ holds _ ∷ holds _ ∷ holds _ ∷ holds _ ∷ holds _ ∷ holds _ ∷ holds _ ∷ []) (done !))))))))
 
   -- ---- what comes of the calls
-  module _ {M : Type 1} (𝓤 : URA M) (H : Heap 𝓤) (A : Atoms 𝓤) (W : Given 𝓤 H A) (mem : Memory → SProp 𝓤) (runs : Routine → Fun 𝓤) (qs : Shares 2) (are : Related) (C : Calls 𝓤 H) (fm : FmC 𝓤 H (W .laws) C) where
+  module _ {M : Type 1} (𝓤 : URA M) (H : Heap 𝓤) (A : Atoms 𝓤) (W : Given 𝓤 H A) (mem : Memory → SProp 𝓤) (runs : Routine → Fun 𝓤) (qs : Shares 2) (are : Related)
+      (C : Calls 𝓤 H) (fm : FmC 𝓤 H (W .laws) C) where
     abbrev File : List ℕ → Fml
     File = Holds u8 (named 0) (κs .0) (qs .0) file fv
 
@@ -167,34 +189,48 @@ module _ (κs : Lfts 2) (a : Args self.signature κs) where
     Said d g = (deletionSays d, g) ≡ deleteStep order (now file) number size
 
     deleted : Triple 𝓤 (C #deletes) (Deleting 𝓤 H A mem runs) → ent 𝓤 (⋆ 𝓤 H A (‵ (File (now file)) ∷ ‵ ftrue ∷ ‵ ftrue ∷ []))
-        (H .⇛ (C #deletes (fv ∷ order-value order ∷ vint w32 number ∷ vint w64 size ∷ []) (Yields 𝓤 H D.the-row (λ d. ex 𝓤 (λ (g : List ℕ). guard 𝓤 (Said d g) (sep 𝓤 (sem 𝓤 H A (File g)) (emp 𝓤)))))))
-    deleted known = lends-file (named 0) (κs .0) (qs .0) file fv 𝓤 H A W C fm (now file) 0 tt tt (order-slot ∷ number-slot ∷ size-slot ∷ []) (yes, (yes, (yes, tt))) D.the-row (deletes.clauses 𝓤 H A mem runs)
-        (λ _. (order, (number, (size, tt)))) #deletes known (λ _. (order-value order ∷ [], (vint w32 number ∷ [], (vint w64 size ∷ [], tt)))) (order-value order ∷ vint w32 number ∷ vint w64 size ∷ []) (λ _. refl)
-        (emp 𝓤) (λ _. qed W [] ∵ nothing ! $ owned ! usize (Is usize) (uint-makes 𝓤 H A W w64) size _ (refl, are .1 .1 .1 .0 .0 .1 .0) $ fjoin ! $ owned ! u32 (Is u32) (uint-makes 𝓤 H A W w32) number _ (are .1 .1 .0) $ fjoin ! $
+        (H .⇛ (C #deletes (fv ∷ order-value order ∷ vint w32 number ∷ vint w64 size ∷ [])
+        (Yields 𝓤 H D.the-row (λ d. ex 𝓤 (λ (g : List ℕ). guard 𝓤 (Said d g) (sep 𝓤 (sem 𝓤 H A (File g)) (emp 𝓤)))))))
+    deleted known = lends-file (named 0) (κs .0) (qs .0) file fv 𝓤 H A W C fm (now file) 0 tt tt (order-slot ∷ number-slot ∷ size-slot ∷ [])
+        (yes, (yes, (yes, tt))) D.the-row (deletes.clauses 𝓤 H A mem runs)
+        (λ _. (order, (number, (size, tt)))) #deletes known (λ _. (order-value order ∷ [], (vint w32 number ∷ [], (vint w64 size ∷ [], tt))))
+        (order-value order ∷ vint w32 number ∷ vint w64 size ∷ []) (λ _. refl)
+        (emp 𝓤) (λ _. qed W [] ∵ nothing ! $ owned ! usize (Is usize) (uint-makes 𝓤 H A W w64) size _ (refl, are .1 .1 .1 .0 .0 .1 .0) $ fjoin ! $
+        owned ! u32 (Is u32) (uint-makes 𝓤 H A W w32) number _ (are .1 .1 .0) $ fjoin ! $
         owned ! O.the-row (Is O.the-row) (makes-order 𝓤 H A) order _ (are .1 .0) $ fjoin ! $ done !) (λ ν δ. tt) (λ ν δ. id⊢ 𝓤 _) Said (λ ν δ d e. id⊢ 𝓤 _)
 
     -- at the end: the answer of d, the file g, and the table t
-    exits : (d : Deletion) (w : Val) (g : List ℕ) (t : List Extent) → Is D.the-row d (w ∷ []) → Said d g → t ≡ runsOver order g (d .count) (now table) → ent 𝓤 (⋆ 𝓤 H A (‵ (Table t) ∷ ‵ (File g) ∷ [])) (Post (answer (d .answer)))
+    exits : (d : Deletion) (w : Val) (g : List ℕ) (t : List Extent) → Is D.the-row d (w ∷ []) → Said d g → t ≡ runsOver order g (d .count) (now table)
+        → ent 𝓤 (⋆ 𝓤 H A (‵ (Table t) ∷ ‵ (File g) ∷ [])) (Post (answer (d .answer)))
     exits d w g t is eq filled-is =
-        qed W (‵ (Table t) ∷ ‵ (File g) ∷ []) ∵ counts X.the-row (named 1) (κs .1 .0) (qs .1 .0) table tv ! t (are .1 .1 .1 .0) (λ table-length. move ! (2 ∷ []) $ counts u8 (named 0) (κs .0) (qs .0) file fv ! g (are .0) (λ file-length.
+        qed W (‵ (Table t) ∷ ‵ (File g) ∷ []) ∵ counts X.the-row (named 1) (κs .1 .0) (qs .1 .0) table tv ! t (are .1 .1 .1 .0)
+        (λ table-length. move ! (2 ∷ []) $ counts u8 (named 0) (κs .0) (qs .0) file fv ! g (are .0) (λ file-length.
         -- [what the file owns; its token; what the table owns; its token]
-        suffices ! _ (ends-at 𝓤 H A self.ended stayed (self.clauses 𝓤 H A mem runs) W ((κs, qs, tt, a, vals), tt) (answer (d .answer)) (d .answer) (g, (tt, (tt, (t, tt)))) (file-length, (tt, (tt, (table-length, tt))))) $
+        suffices ! _ (ends-at 𝓤 H A self.ended stayed (self.clauses 𝓤 H A mem runs) W ((κs, qs, tt, a, vals), tt) (answer (d .answer)) (d .answer)
+        (g, (tt, (tt, (t, tt)))) (file-length, (tt, (tt, (table-length, tt))))) $
         says ! (rw filled-is (delete-done order (now file) number (now table) d g eq)) $
-        nothing ! $ move ! (4 ∷ 0 ∷ []) $ join ! $ move ! (2 ∷ 0 ∷ []) $ join ! $ frame ! $ nothing ! $ move ! (2 ∷ 0 ∷ []) $ fjoin ! $ nothing ! $ fjoin ! $ nothing ! $ fjoin ! $ move ! (1 ∷ 0 ∷ []) $ fjoin ! $ frame ! $
+        nothing ! $ move ! (4 ∷ 0 ∷ []) $ join ! $ move ! (2 ∷ 0 ∷ []) $ join ! $ frame ! $ nothing ! $ move ! (2 ∷ 0 ∷ []) $ fjoin ! $ nothing ! $ fjoin ! $
+        nothing ! $ fjoin ! $ move ! (1 ∷ 0 ∷ []) $ fjoin ! $ frame ! $
         owned ! S.the-row (Is S.the-row) (EL.makes S.the-type S′.the-plain 𝓤 H A) (d .answer) _ (parts d w is .0) $ done !))
 
-    runs-through : Triple 𝓤 (C #deletes) (Deleting 𝓤 H A mem runs) → Triple 𝓤 (C #fill) (Filling 𝓤 H A mem runs) → ent 𝓤 (onEntry 𝓤 H A self.signature κs qs a vals) (H .⇛ (Deletes 𝓤 H C Post))
+    runs-through : Triple 𝓤 (C #deletes) (Deleting 𝓤 H A mem runs) → Triple 𝓤 (C #fill) (Filling 𝓤 H A mem runs)
+        → ent 𝓤 (onEntry 𝓤 H A self.signature κs qs a vals) (H .⇛ (Deletes 𝓤 H C Post))
     runs-through known-deletes known-fill =
-        qed W ((‵ (flft (κs .0) (qs .0)) ⊛ ‵ (flft (κs .1 .0) (qs .1 .0)) ⊛ ‵ ftrue) ∷ ‵ (owns (MutSlice (named 0) (κs .0) u8 ∷ O.the-row ∷ u32 ∷ MutSlice (named 1) (κs .1 .0) X.the-row ∷ []) a vals) ∷ []) ∵ updating ! $
-        split ! $ move ! (1 ∷ []) $ split ! $ move ! (3 ∷ []) $ fsplit ! $ move ! (0 ∷ 4 ∷ []) $ fjoin ! $ move ! (1 ∷ []) $ fsplit ! $ drop ! $ fsplit ! $ drop ! $ fsplit ! $ move ! (0 ∷ 3 ∷ []) $ fjoin ! $ move ! (2 ∷ 1 ∷ 3 ∷ 0 ∷ []) $
+        qed W ((‵ (flft (κs .0) (qs .0)) ⊛ ‵ (flft (κs .1 .0) (qs .1 .0)) ⊛ ‵ ftrue) ∷ ‵
+        (owns (MutSlice (named 0) (κs .0) u8 ∷ O.the-row ∷ u32 ∷ MutSlice (named 1) (κs .1 .0) X.the-row ∷ []) a vals) ∷ []) ∵ updating ! $
+        split ! $ move ! (1 ∷ []) $ split ! $ move ! (3 ∷ []) $ fsplit ! $ move ! (0 ∷ 4 ∷ []) $ fjoin ! $ move ! (1 ∷ []) $ fsplit ! $ drop ! $ fsplit ! $ drop ! $
+        fsplit ! $ move ! (0 ∷ 3 ∷ []) $ fjoin ! $ move ! (2 ∷ 1 ∷ 3 ∷ 0 ∷ []) $
         -- [the file; true; true; the table]
         use3 W (later (raw (C #deletes _ _))) (deleted known-deletes) $ await ! tt $ at-once ! $ onward ! fm (λ w. updating ! $
-        use1 W (later (some (λ (d : Deletion). given (Is D.the-row d (w ∷ [])) (some (λ (g : List ℕ). given (Said d g) (‵ (File g) ⊛ ‵ ftrue)))))) (id⊢ 𝓤 _) $ await ! tt $ pick ! (λ d. learn ! (λ is. pick ! (λ g. learn ! (λ eq. split ! $ keep ! (2 ∷ 0 ∷ []) $
+        use1 W (later (some (λ (d : Deletion). given (Is D.the-row d (w ∷ [])) (some (λ (g : List ℕ). given (Said d g) (‵ (File g) ⊛ ‵ ftrue)))))) (id⊢ 𝓤 _) $
+        await ! tt $ pick ! (λ d. learn ! (λ is. pick ! (λ g. learn ! (λ eq. split ! $ keep ! (2 ∷ 0 ∷ []) $
         -- [the table; the file]
-        use2 W (later (raw (C #fill _ _))) (fills (named 0) (named 1) (κs .0) (κs .1 .0) (qs .0) (qs .1 .0) file table fv tv 𝓤 H A W C fm g (now table) mem runs order (order-value order) (d .count)
+        use2 W (later (raw (C #fill _ _))) (fills (named 0) (named 1) (κs .0) (κs .1 .0) (qs .0) (qs .1 .0) file table fv tv 𝓤 H A W C fm g (now table) mem runs order
+        (order-value order) (d .count)
         known-fill (are .1 .0) (parts d w is .1 .0) (delete-may-fill order (now file) number (now table) d g eq)) $ await ! tt $ at-once ! $
         show ! (λ (z : Deletion). guard 𝓤 (Is D.the-row z (w ∷ [])) (Fills 𝓤 H C Post z)) d $ check ! is $ onward ! fm (λ u. updating ! $
-        use1 W (later (some (λ (r : Unit {0}). given (Is Nothing r (u ∷ [])) (some (λ (t : List Extent). given (t ≡ runsOver order g (d .count) (now table)) (‵ (Table t) ⊛ ‵ (File g))))))) (id⊢ 𝓤 _) $
+        use1 W (later (some (λ (r : Unit {0}). given (Is Nothing r (u ∷ []))
+        (some (λ (t : List Extent). given (t ≡ runsOver order g (d .count) (now table)) (‵ (Table t) ⊛ ‵ (File g))))))) (id⊢ 𝓤 _) $
         await ! tt $ pick ! (λ r. learn ! (λ ir. pick ! (λ t. learn ! (λ filled-is. at-once ! $
         show ! (λ (z : Unit {0}). guard 𝓤 (Is Nothing z (u ∷ [])) (Post (answer (d .answer)))) r $ check ! ir $ by ! (exits d w g t is eq filled-is)))))))))))
 
@@ -202,8 +238,10 @@ module _ {M : Type 1} (𝓤 : URA M) (H : Heap 𝓤) (A : Atoms 𝓤) (W : Given
   walks : (C : Calls 𝓤 H) (Λ : Loops 𝓤 H) → FmC 𝓤 H (W .laws) C → Triple 𝓤 (C #deletes) (Deleting 𝓤 H A mem runs) → Triple 𝓤 (C #fill) (Filling 𝓤 H A mem runs)
       → Walks 𝓤 H A self.ended stayed (WpFn 𝓤 H C Λ code.function) (self.clauses 𝓤 H A mem runs)
   walks C Λ fm known-deletes known-fill = walked 𝓤 H A self.ended stayed (self.clauses 𝓤 H A mem runs) (WpFn 𝓤 H C Λ code.function)
-      (λ κs. (slice-vals, (EL.vals O.the-type O′.the-laws, (uint-vals w32, (slice-vals, tt))))) (λ κs. (mut-slice-tells (named 0) (κs .0) u8, (EL.tells O.the-type O′.the-laws, (uint-tells w32, (mut-slice-tells (named 1) (κs .1 .0) X.the-row, tt)))))
-      (λ κs qs bounds a g are. via 𝓤 _ (fst∗ 𝓤 _ (emp 𝓤)) (via 𝓤 _ (runs-through κs a 𝓤 H A W mem runs qs are C fm known-deletes known-fill) (walk κs a 𝓤 H A W C Λ fm are _)))
+      (λ κs. (slice-vals, (EL.vals O.the-type O′.the-laws, (uint-vals w32, (slice-vals, tt)))))
+      (λ κs. (mut-slice-tells (named 0) (κs .0) u8, (EL.tells O.the-type O′.the-laws, (uint-tells w32, (mut-slice-tells (named 1) (κs .1 .0) X.the-row, tt)))))
+      (λ κs qs bounds a g are. via 𝓤 _ (fst∗ 𝓤 _ (emp 𝓤)) (via 𝓤 _ (runs-through κs a 𝓤 H A W mem runs qs are C fm known-deletes known-fill)
+      (walk κs a 𝓤 H A W C Λ fm are _)))
 
 pub delete-spec : {M : Type 1} → statement M
 unfolding code.routine tablesOf
