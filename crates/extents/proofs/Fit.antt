@@ -128,7 +128,7 @@ module _ (o : Order) (f : List ℕ) (a : Accepted o f) (need : ℕ) (some : 1 �
         (
           x .1,
           words-free (wordAt o f) (run o f (suc i) .start) (run o f (suc i) .start + need) (omega arith)
-          (λ p from to. run-next o f a i .at .free p from (omega (arith, to, x .0))),
+              (λ p from to. run-next o f a i .at .free p from (omega (arith, to, x .0))),
         ),
       )
 
@@ -139,7 +139,7 @@ module _ (o : Order) (f : List ℕ) (a : Accepted o f) (need : ℕ) (some : 1 �
       let x = fits-in-exactly need (run o f (suc i)) .sound fit in
       let inside : run o f (suc i) .start + need ≤ length f / 4 = omega (arith, x .0, run-inside o f a (suc i)) in (
         lowest-at (wordAt o f) (length f / 4) need (run o f (suc i) .start) (omega (arith, run-after o f a i, run-next o f a i .from)) (omega arith)
-        (fits-here i fit) (λ q from to e. before q to (fits-run (suc i) q from (omega (arith, to)) e)),
+            (fits-here i fit) (λ q from to e. before q to (fits-run (suc i) q from (omega (arith, to)) e)),
         omega (arith, inside),
       )
     where

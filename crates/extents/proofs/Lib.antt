@@ -1,5 +1,5 @@
-pub mod Slots
 pub mod Free
+pub mod Slots
 pub mod Runs
 pub mod Fit
 pub mod Longest

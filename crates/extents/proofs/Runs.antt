@@ -130,7 +130,7 @@ module _ (w : ℕ → ℕ) (whole : ℕ) where
         (λ i low high. later-no-start w i (omega (arith, from, low, r .from)) (r .at .free (i - 1) (omega arith) (omega arith)))
         ∙ to-more (e .start) (omega (arith, from, r .from)) (run-starts w whole p e r some edge)
         ∙ ap₂ (λ (x : List Extent) (y : Extent). x ++ y ∷ [])
-          (to-still p (e .start) from (r .from) (λ i low high. taken-no-start w i (r .taken i low high))) (r .same)
+        (to-still p (e .start) from (r .from) (λ i low high. taken-no-start w i (r .taken i low high))) (r .same)
 
     -- where it has none, there is none behind p
     to-last : e .length ≡ 0 → stretchesTo whole ≡ stretchesTo p
@@ -382,8 +382,8 @@ module _ (w : ℕ → ℕ) where
       found free r =
           let h : Has w q (r .0) = r .1 in
           let end : gridEnd w (w (11 + r .0)) ≤ suc q =
-              ⊎-elim (λ x. x) (λ x. let z : ⊥ = omega (arith, x, h .from) in absurd z)
-              (none-has-exactly w (suc q) (suc q + 1) .sound free (r .0) (h .slot) (h .full)) in
+          ⊎-elim (λ x. x) (λ x. let z : ⊥ = omega (arith, x, h .from) in absurd z)
+          (none-has-exactly w (suc q) (suc q + 1) .sound free (r .0) (h .slot) (h .full)) in
           count-lt (endsBy q) (endsBy (suc q)) (w 10) (ends-later q) (r .0) (h .slot)
           (fails (ends-exactly q (r .0)) (λ x. omega (arith, x .1, h .to)))
           (ends-exactly (suc q) (r .0) .complete (h .full, end))

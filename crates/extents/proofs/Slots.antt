@@ -4,28 +4,26 @@ use mathlib.Core.Path.{_≡_, refl, sym, ap, subst, _∙_}
 use mathlib.Core.Bool.{Bool, true, false, not, false≢true}
 use mathlib.Core.Logic.{_⊎_, inl, inr, ⊎-elim}
 use mathlib.Core.List.{List}
-use Prim.Native.Nat.{ℕ, zero, suc, _+_, _-_, _*_, _/_, _≤_, _<_}
-use native.Mathlib.Nat.{eq-or-lt-of-le, le-of-suc-le-suc}
+use Prim.Native.Nat.{ℕ, zero, suc, _+_, _-_, _/_, _≤_, _<_}
 use native.Mathlib.Decide.{decLt}
 use native.Mathlib.Numerals.{add-one}
 use native.Mathlib.Omega.{arith}
-use lib.Dec.{leb, ltb, eqb}
+use lib.Dec.{leb, ltb}
 use lib.ListN.{length}
-use borrow.Author.Tests.{leb-true, leb-false, ltb-true, ltb-false, lt-ltb, le-ltb, le-leb, lt-leb, eqb-true, eqb-false, eq-eqb, ne-eqb, not-true}
+use borrow.Author.Tests.{leb-true, ltb-true, lt-ltb, le-ltb, le-leb, eqb-false, ne-eqb}
 use Rattle.lists.specs.Choices.{pick, both}
 use Rattle.lists.specs.Lowest.{lowest, IsLowest}
 use Rattle.lists.proofs.Choices.{both-true, true-both}
 use Rattle.lists.proofs.Lowest.{lowest-is, lowest-exactly}
 use Rattle.endian.specs.Words.{wordAt}
 use Rattle.endian.specs.declared.Order.{Order}
-use Rattle.refusal.proofs.Exactness.{not-exactly}
-use Rattle.grid_rules.specs.Rules.{emptySlot, isEmpty, gridEnd, nextFree, shares, meets}
-use Rattle.grid_rules.specs.Accepts.{Full, Room, AcceptsHead, AcceptsSlot, AcceptsFile}
-use Rattle.grid_rules.proofs.Slots.{below-more, accepted-room, meets-exactly, unshared-exactly, shares-at}
-use Rattle.grid_rules.proofs.Acceptance.{file-passes}
-use Rattle.extents.specs.Stretches.{extent, none, endOf, slotExtent, highestEnd, noGridHas, isFree, lowestFree, lowestTaken, runFrom}
+use Rattle.grid_rules.specs.Rules.{emptySlot, isEmpty, gridEnd, nextFree}
+use Rattle.grid_rules.specs.Accepts.{Full, Room, AcceptsSlot, AcceptsFile}
+use Rattle.grid_rules.proofs.Slots.{below-more, accepted-room}
+use Rattle.extents.specs.Stretches.{extent, none, endOf, slotExtent, highestEnd, isFree, lowestFree, lowestTaken, runFrom}
 use Rattle.extents.specs.Steps.{Accepted, Slots, pastGrid, nextGrid, runAfter}
 use Rattle.extents.specs.declared.Extent.{Extent}
+use Rattle.extents.proofs.Free.{accepted-file, Has, taken-slot, slot-taken}
 
 -- ---- an accepted file
 
@@ -33,7 +31,7 @@ use Rattle.extents.specs.declared.Extent.{Extent}
 pub accepted-slots : (o : Order) (f : List ℕ) → Accepted o f → Slots (length f) (wordAt o f)
 accepted-slots o f e =
     let w : ℕ → ℕ = wordAt o f in
-    let a : AcceptsFile (length f) w = file-passes (length f) w .0 e in
+    let a : AcceptsFile (length f) w = accepted-file o f e in
     let r : Room (length f) (w 10) (nextFree w) = accepted-room (length f) w (a .head) in
     record {
       few = r .few;
@@ -103,55 +101,46 @@ module _ (w : ℕ → ℕ) where
 
   -- ---- free words
 
-  -- the grid of slot j has word r
-  abbrev pub Has : ℕ → ℕ → Type 0
-  Has j r = (slotExtent w j .start ≤ r) × (r < endOf (slotExtent w j))
+  -- word r is one of those of slot j's grid
+  abbrev pub SlotHas : ℕ → ℕ → Type 0
+  SlotHas j r = (slotExtent w j .start ≤ r) × (r < endOf (slotExtent w j))
 
   -- so that the slot is full, and r is from its offset up to its end
-  pub has-full : (j r : ℕ) → Has j r → Full w j × ((w (11 + j) ≤ r) × (r < gridEnd w (w (11 + j))))
-  has-full j r h =
+  has-full : (j r : ℕ) → j < w 10 → SlotHas j r → Has w r j
+  has-full j r l h =
       ⊎-elim (λ e. let z : r < 0 = subst (λ (x : Extent). r < endOf x) e (h .1) in absurd (omega (arith, z)))
-      (λ s. (
-        s .0,
-        (subst (λ (x : Extent). x .start ≤ r) (s .1) (h .0), let z : r < w (11 + j) + (64 + w (w (11 + j))) = subst (λ (x : Extent). r < endOf x) (s .1) (h .1) in omega (arith, z)),
-      ))
+      (λ s.
+      let end : r < w (11 + j) + (64 + w (w (11 + j))) = subst (λ (x : Extent). r < endOf x) (s .1) (h .1) in
+      record { slot = l; full = s .0; from = subst (λ (x : Extent). x .start ≤ r) (s .1) (h .0); to = omega (arith, end) })
       (slot-cases j)
 
-  full-has : (j r : ℕ) → Full w j → w (11 + j) ≤ r → r < gridEnd w (w (11 + j)) → Has j r
-  full-has j r full l m =
-      let e : slotExtent w j ≡ extent (w (11 + j)) (64 + w (w (11 + j))) = slot-full j (ne-eqb (w (11 + j)) emptySlot full) in
-      rw e (l, omega (arith, m))
+  full-has : (j r : ℕ) → Has w r j → SlotHas j r
+  full-has j r h = rw (slot-full j (ne-eqb (w (11 + j)) emptySlot (h .full))) (h .from, omega (arith, h .to))
 
   -- a word that a grid has is not free
-  pub has-taken : (j r : ℕ) → j < w 10 → Has j r → isFree w r ≡ false
-  unfolding noGridHas
-  has-taken j r l h =
-      let x = has-full j r h in
-      let m : meets w r (r + 1) j ≡ true = meets-exactly w r (r + 1) j .complete (x .0, (x .1 .1, omega (arith, x .1 .0))) in
-      rw (shares-at w r (r + 1) j (w 10) l m)
+  pub has-taken : (j r : ℕ) → j < w 10 → SlotHas j r → isFree w r ≡ false
+  has-taken j r l h = slot-taken w r j (has-full j r l h)
 
   -- a word that no grid has is free
-  pub none-free : (r : ℕ) → ((j : ℕ) → j < w 10 → ¬ (Has j r)) → isFree w r ≡ true
-  unfolding noGridHas
-  none-free r h = unshared-exactly w r (r + 1) (w 10) .complete (λ j l full. apart j full (h j l) (decLt r (gridEnd w (w (11 + j)))) (decLt r (w (11 + j))))
+  pub none-free : (r : ℕ) → ((j : ℕ) → j < w 10 → ¬ (SlotHas j r)) → isFree w r ≡ true
+  none-free r h = step (isFree w r) refl
     where
-      apart : (j : ℕ) → Full w j → ¬ (Has j r) → Dec (r < gridEnd w (w (11 + j))) → Dec (r < w (11 + j)) → (gridEnd w (w (11 + j)) ≤ r) ⊎ (r + 1 ≤ w (11 + j))
-      apart j full hasnt (no ge) b = inl (omega arith)
-      apart j full hasnt (yes lt) (yes b) = inr (omega (arith, b))
-      apart j full hasnt (yes lt) (no b) = absurd (hasnt (full-has j r full (omega arith) lt))
+      step : (t : Bool) → isFree w r ≡ t → t ≡ true
+      step true e = refl
+      step false e = let x = taken-slot w r e in absurd (h (x .0) (x .1 .slot) (full-has (x .0) r (x .1)))
 
   -- ---- what the loops over all slots find
 
   -- r is the end of a grid of the first k slots that has word p; or p, and none has it
   abbrev pub Past : ℕ → ℕ → ℕ → Type 0
-  Past p k r = ((r ≡ p) × ((j : ℕ) → j < k → ¬ (Has j p))) ⊎ ((j : ℕ) × ((j < k) × (Has j p × (r ≡ endOf (slotExtent w j)))))
+  Past p k r = ((r ≡ p) × ((j : ℕ) → j < k → ¬ (SlotHas j p))) ⊎ ((j : ℕ) × ((j < k) × (SlotHas j p × (r ≡ endOf (slotExtent w j)))))
 
   past-cases : (p k : ℕ) → Past p k (pastGrid w p k)
   unfolding pastGrid
   past-cases p zero = inl (refl, λ j l h. let z : ⊥ = omega (arith, l) in z)
   past-cases p (suc k) = step (both (leb (slotExtent w k .start) p) (ltb p (endOf (slotExtent w k)))) refl (past-cases p k)
     where
-      hasnt : both (leb (slotExtent w k .start) p) (ltb p (endOf (slotExtent w k))) ≡ false → ¬ (Has k p)
+      hasnt : both (leb (slotExtent w k .start) p) (ltb p (endOf (slotExtent w k))) ≡ false → ¬ (SlotHas k p)
       hasnt e h =
           false≢true
           (sym e ∙ true-both (leb (slotExtent w k .start) p) (ltb p (endOf (slotExtent w k))) (le-leb (slotExtent w k .start) p (h .0)) (lt-ltb p (endOf (slotExtent w k)) (h .1)))
@@ -195,8 +184,8 @@ module _ (w : ℕ → ℕ) where
   pub record NextIs (whole p k r : ℕ) : Type 0 where
     pub to : r ≤ whole
     pub from : p ≤ whole → p ≤ r
-    pub start : (r ≡ whole) ⊎ ((j : ℕ) × ((j < k) × Has j r))
-    pub lowest : (j q : ℕ) → j < k → Has j q → p ≤ slotExtent w j .start → r ≤ slotExtent w j .start
+    pub start : (r ≡ whole) ⊎ ((j : ℕ) × ((j < k) × SlotHas j r))
+    pub lowest : (j q : ℕ) → j < k → SlotHas j q → p ≤ slotExtent w j .start → r ≤ slotExtent w j .start
 
   next-is : (whole p k : ℕ) → NextIs whole p k (nextGrid w whole p k)
   unfolding nextGrid
@@ -222,7 +211,7 @@ module _ (w : ℕ → ℕ) where
             from = λ l. ahead;
             start = inr (k, (omega arith, (omega arith, omega (arith, some))));
             lowest = λ j q l h m.
-                below-more {P = λ i. (x : ℕ) → Has i x → p ≤ slotExtent w i .start → e .start ≤ slotExtent w i .start} k
+                below-more {P = λ i. (x : ℕ) → SlotHas i x → p ≤ slotExtent w i .start → e .start ≤ slotExtent w i .start} k
                 (λ i il x ih im. let z : nextGrid w whole p k ≤ slotExtent w i .start = so-far .lowest i x il ih im in omega (arith, z, nearer))
                 (λ x ih im. omega arith)
                 j l q h m;
@@ -233,13 +222,13 @@ module _ (w : ℕ → ℕ) where
             from = so-far .from;
             start = ⊎-elim inl (λ h. inr (h .0, (omega (arith, h .1 .0), h .1 .1))) (so-far .start);
             lowest = λ j q l h m.
-                below-more {P = λ i. (x : ℕ) → Has i x → p ≤ slotExtent w i .start → nextGrid w whole p k ≤ slotExtent w i .start} k
+                below-more {P = λ i. (x : ℕ) → SlotHas i x → p ≤ slotExtent w i .start → nextGrid w whole p k ≤ slotExtent w i .start} k
                 (λ i il x ih im. so-far .lowest i x il ih im)
                 (λ x ih im. here x ih im (decLt (e .start) (nextGrid w whole p k)))
                 j l q h m;
           }
         where
-          here : (x : ℕ) → Has k x → p ≤ e .start → Dec (e .start < nextGrid w whole p k) → nextGrid w whole p k ≤ e .start
+          here : (x : ℕ) → SlotHas k x → p ≤ e .start → Dec (e .start < nextGrid w whole p k) → nextGrid w whole p k ≤ e .start
           here x ih im (no ge) = omega arith
           here x ih im (yes lt) =
               let a : both (leb p (e .start)) (ltb (e .start) (nextGrid w whole p k)) ≡ true =
@@ -251,12 +240,12 @@ module _ (w : ℕ → ℕ) where
   pub next-lowest : (whole p : ℕ) → p ≤ whole → (p < whole → isFree w p ≡ true) → nextGrid w whole p (w 10) ≡ lowestTaken w whole p
   next-lowest whole p l free =
       sym (lowest-exactly (λ q. not (isFree w q)) p (whole - p) r .1 (
-        record {
-          from = x .from l;
-          to = omega (arith, x .to, l);
-          none = λ q m h. ap not (none-free q (λ j k has. unfree j q k has m h));
-          holds = λ h. ap not (⊎-elim (λ e. let z : ⊥ = omega (arith, h, e, l) in absurd z) (λ s. has-taken (s .0) r (s .1 .0) (s .1 .1)) (x .start));
-        }
+      record {
+        from = x .from l;
+        to = omega (arith, x .to, l);
+        none = λ q m h. ap not (none-free q (λ j k has. unfree j q k has m h));
+        holds = λ h. ap not (⊎-elim (λ e. let z : ⊥ = omega (arith, h, e, l) in absurd z) (λ s. has-taken (s .0) r (s .1 .0) (s .1 .1)) (x .start));
+      }
       ))
     where
       r : ℕ
@@ -266,7 +255,7 @@ module _ (w : ℕ → ℕ) where
       x = next-is whole p (w 10)
 
       -- a grid that has a word before the next start begins before p, and has p
-      unfree : (j q : ℕ) → j < w 10 → Has j q → p ≤ q → q < r → ⊥
+      unfree : (j q : ℕ) → j < w 10 → SlotHas j q → p ≤ q → q < r → ⊥
       unfree j q k has m h = step (decLt (slotExtent w j .start) p)
         where
           step : Dec (slotExtent w j .start < p) → ⊥

@@ -4,12 +4,11 @@
 use mathlib.Core.Path.{_≡_, refl, sym, ap, subst, _∙_}
 use mathlib.Core.Bool.{true, false, not, false≢true}
 use mathlib.Core.Logic.{_⊎_, inl, inr, ⊎-elim, _↔_}
-use mathlib.Core.List.{List, [], _∷_, _++_}
+use mathlib.Core.List.{List, _++_}
 use Prim.Native.Nat.{ℕ, zero, suc, _+_, _-_, _*_, _/_, _≤_, _<_}
 use native.Mathlib.Nat.{mul-comm}
 use native.Mathlib.Decide.{ℕ-discrete}
 use native.Mathlib.Omega.{arith}
-use lib.Dec.{ltb, eqb}
 use lib.IntN.{ℤ, pos}
 use lib.ListN.{length, getD}
 use lib.Seq.{sets, length-sets}
@@ -25,9 +24,9 @@ use Rattle.lists.proofs.Stores.{Where, inside, outside, where-is, sets-inside}
 use Rattle.endian.specs.Words.{signedAt, wordAt}
 use Rattle.endian.specs.declared.Order.{Order}
 use Rattle.endian.proofs.Places.{word-number}
-use Rattle.refusal.specs.Rules.{Rule, rule, firstFault, Hold}
+use Rattle.refusal.specs.Rules.{Rule, firstFault, Hold}
 use Rattle.refusal.specs.Answers.{gives}
-use Rattle.refusal.specs.Tests.{Exactly, within}
+use Rattle.refusal.specs.Tests.{Exactly}
 use Rattle.refusal.specs.declared.Verdict.the-variants.{Pass}
 use Rattle.refusal.proofs.Exactness.{le-exactly, lt-exactly, eq-exactly, within-exactly}
 use Rattle.refusal.proofs.Tables.{pass-hold, hold-pass, hold-append, also}
@@ -106,7 +105,7 @@ add-passes o f headers rows columns values size =
           (also (header .complete (p .asked .whole-header))
           (also (slot .complete (p .slot))
           (also (room .complete (p .room))
-          tt)))))))))
+          tt))))))))),
     )
 
 -- the slot that is taken is empty
@@ -422,8 +421,7 @@ module _ (o : Order) (f header : List ℕ) (rows columns : ℕ) (values : List �
         let at : 10 + (newSlot + 1) ≡ 11 + newSlot = omega arith in
         let here : v (10 + (newSlot + 1)) ≡ newAddress = ap v at ∙ added-slot in
         grid-exactly o addedFile (newSlot + 1)
-        (record { order = o; length = length f; number = newSlot + 1; offset = newAddress; rows = rows; columns = columns }) .1
-        (
+        (record { order = o; length = length f; number = newSlot + 1; offset = newAddress; rows = rows; columns = columns }) .1 (
           record {
             file = file-passes (length addedFile) v .0 added-accepted;
             number-from = omega arith;

@@ -1,10 +1,9 @@
 -- The plan of an addition: what it is by the verdict of its rules, and what carrying it out may rest on.
 -- Assumes nothing.
-use mathlib.Core.Path.{_≡_, refl, sym, ap, subst, _∙_}
+use mathlib.Core.Path.{_≡_, refl}
 use mathlib.Core.List.{List}
-use Prim.Native.Nat.{ℕ, _+_, _-_, _*_, _/_, _≤_, _<_}
+use Prim.Native.Nat.{ℕ, _+_, _-_, _*_, _/_, _≤_}
 use native.Mathlib.Omega.{arith}
-use lib.IntN.{ℤ}
 use lib.ListN.{length}
 use lib.Seq.{sets}
 use borrow.Author.Tests.{lt-ltb}
@@ -15,15 +14,12 @@ use Rattle.refusal.specs.Rules.{firstFault}
 use Rattle.refusal.specs.declared.Refusal.{Refusal}
 use Rattle.refusal.specs.declared.Verdict.{Verdict}
 use Rattle.refusal.specs.declared.Verdict.the-variants.{Pass, Fault}
-use Rattle.extents.specs.Rooms.{firstOf}
 use Rattle.extents.specs.Steps.{survey}
-use Rattle.extents.specs.declared.Extent.{Extent}
 use Rattle.extents.specs.declared.Survey.{Survey}
 use Rattle.extents.proofs.Fit.{room-some}
 use Rattle.grid_changes.specs.Changes.{setWord, stretchesOf, gridWords, lowestEmpty, addressFor, addRules, added}
 use Rattle.grid_changes.proofs.Addition.{AddPasses, add-passes}
-use Rattle.grid_writes.specs.Writes.{refusedPlan, planned, addPlan, Ready}
-use Rattle.grid_writes.specs.declared.AddPlan.{AddPlan}
+use Rattle.grid_writes.specs.Writes.{refusedPlan, planned, addPlan}
 
 module _ (o : Order) (f : List ℕ) (headers rows columns values size : ℕ) where
   -- where the rules refuse

@@ -54,8 +54,7 @@ loop-holds : tie.Need-loop-holds Inv-loop μ-loop
 loop-holds c =
     let s = c .before .before .before in
     let f = now (s .args .file) in
-    let o = s .args .order in
-    (
+    let o = s .args .order in (
       0,
       record {
         at = c .run-after .ensures ∙ run-more o f 0 _ (c .before .directory .ensures ∙ run-begin o f);
@@ -97,7 +96,7 @@ loop-less c =
       ap endOf (i .inv .1 .at),
       ap (λ (x : Extent). x .start) next,
       run-next o f (s .pre .0) (suc (i .inv .0)) .from,
-      run-inside o f (s .pre .0) (suc (suc (i .inv .0)))
+      run-inside o f (s .pre .0) (suc (suc (i .inv .0))),
     )
 
 loop-again : tie.Need-loop-again Inv-loop μ-loop

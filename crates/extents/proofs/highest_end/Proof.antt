@@ -1,6 +1,6 @@
 -- `extents::highest_end` meets its contract: the highest end so far is that of the slots before the one that the loop is at.
 -- Assumes nothing.
-use mathlib.Core.Path.{_≡_, refl, sym, ap, _∙_}
+use mathlib.Core.Path.{_≡_, refl, ap, _∙_}
 use mathlib.Core.Logic.{⊎-elim}
 use Prim.Native.Nat.{ℕ, _+_, _-_, _≤_}
 use native.Mathlib.Omega.{arith}
@@ -35,7 +35,7 @@ slot-extent-requires : tie.Need-slot-extent-requires Inv-loop μ-loop
 slot-extent-requires c κs = (c .before .before .before .before .pre, omega (arith, c .loop-test .taken, c .before .loop .inv .1 .0))
 
 add-end : tie.Need-add-end Inv-loop μ-loop
-add-end c = 
+add-end c =
     let i = c .before .before .before .loop in
     let a = c .before .before .before .before .before .before .args in
     let w = wordAt (a .order) (now (a .file)) in
@@ -49,12 +49,11 @@ loop-less : tie.Need-loop-less Inv-loop μ-loop
 loop-less c = omega arith
 
 loop-again : tie.Need-loop-again Inv-loop μ-loop
-loop-again c = 
+loop-again c =
     let i = c .before .before .before .before .loop in
     let a = c .before .before .before .before .before .before .before .args in
     let w = wordAt (a .order) (now (a .file)) in
-    let slot = c .before .before .slot-extent .ensures in
-    (
+    let slot = c .before .before .slot-extent .ensures in (
       omega (arith, c .before .before .before .loop-test .taken),
       (
         i .inv .1 .0,
@@ -63,7 +62,7 @@ loop-again c =
     )
 
 returns : tie.Need-returns Inv-loop μ-loop
-returns c = 
+returns c =
     let i = c .before .loop in
     let a = c .before .before .before .before .args in
     let w : ℕ → ℕ = wordAt (a .order) (now (a .file)) in

@@ -41,7 +41,7 @@ past-grid-requires-2 : tie.Need-past-grid-requires-2 Inv-loop μ-loop
 past-grid-requires-2 c κs = let s = c .before .before .before .before in accepted-slots (s .args .order) (now (s .args .file)) (s .pre .0)
 
 loop-less : tie.Need-loop-less Inv-loop μ-loop
-loop-less c = 
+loop-less c =
     let s = c .before .before .before .before .before in
     let w = wordAt (s .args .order) (now (s .args .file)) in
     let i = c .before .before .loop in
@@ -50,14 +50,13 @@ loop-less c =
     omega (arith, c .before .loop-test .taken, i .inv .1 .1 .0, x .inside (i .inv .1 .0))
 
 loop-again : tie.Need-loop-again Inv-loop μ-loop
-loop-again c = 
+loop-again c =
     let s = c .before .before .before .before .before in
     let w = wordAt (s .args .order) (now (s .args .file)) in
     let i = c .before .before .loop in
     let x : PastIs w (length (now (s .args .file))) (i .at) (pastGrid w (i .at) (w 10)) =
     past-is w (length (now (s .args .file))) (i .at) (accepted-slots (s .args .order) (now (s .args .file)) (s .pre .0)) in
-    let past : i .past ≡ pastGrid w (i .at) (w 10) = i .inv .1 .1 .0 in
-    (
+    let past : i .past ≡ pastGrid w (i .at) (w 10) = i .inv .1 .1 .0 in (
       omega (arith, i .inv .0, c .before .loop-test .taken),
       (
         omega (arith, past, x .inside (i .inv .1 .0)),
@@ -69,7 +68,7 @@ loop-again c =
     )
 
 returns : tie.Need-returns Inv-loop μ-loop
-returns c = 
+returns c =
     let s = c .before .before .before .before in
     let w = wordAt (s .args .order) (now (s .args .file)) in
     let i = c .before .loop in
@@ -77,7 +76,7 @@ returns c =
     past-is w (length (now (s .args .file))) (i .at) (accepted-slots (s .args .order) (now (s .args .file)) (s .pre .0)) in
     let free : isFree w (i .at) ≡ true = x .free (omega (arith, c .loop-test .left, i .inv .1 .1 .0)) in
     sym (lowest-exactly (isFree w) (s .args .p) (length (now (s .args .file)) / 4 - s .args .p) (i .at) .1 (
-      record { from = i .inv .0; to = omega (arith, i .inv .1 .0); none = i .inv .1 .1 .1; holds = λ l. free }
+    record { from = i .inv .0; to = omega (arith, i .inv .1 .0); none = i .inv .1 .1 .1; holds = λ l. free }
     ))
 
 pub lowest-free-spec : {M : Type 1} → statement M

@@ -43,7 +43,7 @@ loop-less : tie.Need-loop-less Inv-loop μ-loop
 loop-less c = omega arith
 
 loop-again : tie.Need-loop-again Inv-loop μ-loop
-loop-again c = 
+loop-again c =
     let i = c .before .before .before .before .before .before .before .before .loop in
     let a = c .before .before .before .before .before .before .before .before .before .before .before .args in
     let w = wordAt (a .order) (now (a .file)) in
@@ -54,13 +54,13 @@ loop-again c =
       (
         i .inv .1 .0,
         ⊎-elim (λ t. t .1 ∙ next-taken w (i .k) _ slot (a .whole) (a .p) (i .next) (i .inv .1 .1) (rw (← ahead) (sym test ∙ t .0 .taken)))
-        (λ t. t .1 ∙ next-left w (i .k) _ slot (a .whole) (a .p) (i .next) (i .inv .1 .1) (rw (← ahead) (sym test ∙ t .0 .left)))
-        (c .if1 .came),
+            (λ t. t .1 ∙ next-left w (i .k) _ slot (a .whole) (a .p) (i .next) (i .inv .1 .1) (rw (← ahead) (sym test ∙ t .0 .left)))
+            (c .if1 .came),
       ),
     )
 
 returns : tie.Need-returns Inv-loop μ-loop
-returns c = 
+returns c =
     let i = c .before .loop in
     let a = c .before .before .before .before .args in
     let w : ℕ → ℕ = wordAt (a .order) (now (a .file)) in

@@ -33,7 +33,7 @@ slot-extent-requires : tie.Need-slot-extent-requires Inv-loop μ-loop
 slot-extent-requires c κs = (c .before .before .before .before .pre, omega (arith, c .loop-test .taken, c .before .loop .inv .1 .0))
 
 add-end : tie.Need-add-end Inv-loop μ-loop
-add-end c = 
+add-end c =
     let i = c .before .before .before .loop in
     let a = c .before .before .before .before .before .before .args in
     let w = wordAt (a .order) (now (a .file)) in
@@ -50,7 +50,7 @@ loop-less : tie.Need-loop-less Inv-loop μ-loop
 loop-less c = omega arith
 
 loop-again : tie.Need-loop-again Inv-loop μ-loop
-loop-again c = 
+loop-again c =
     let i = c .before .before .before .before .before .before .loop in
     let a = c .before .before .before .before .before .before .before .before .before .args in
     let w = wordAt (a .order) (now (a .file)) in
@@ -60,13 +60,13 @@ loop-again c =
       (
         i .inv .1 .0,
         ⊎-elim (λ t. t .1 ∙ past-taken w (i .k) _ slot (a .p) (sym test ∙ t .0 .taken))
-        (λ t. t .1 ∙ past-left w (i .k) _ slot (a .p) (i .past) (i .inv .1 .1) (sym test ∙ t .0 .left))
-        (c .if1 .came),
+            (λ t. t .1 ∙ past-left w (i .k) _ slot (a .p) (i .past) (i .inv .1 .1) (sym test ∙ t .0 .left))
+            (c .if1 .came),
       ),
     )
 
 returns : tie.Need-returns Inv-loop μ-loop
-returns c = 
+returns c =
     let i = c .before .loop in
     let a = c .before .before .before .before .args in
     let w : ℕ → ℕ = wordAt (a .order) (now (a .file)) in

@@ -1,6 +1,5 @@
 -- `extents::run_after` meets its contract: the run begins at the lowest free word, and ends where the next grid begins.
 -- Assumes nothing.
-use mathlib.Core.Path.{_≡_}
 use Prim.Native.Nat.{_+_, _/_}
 use lib.ListN.{length}
 use denote.Ref.{now}

@@ -5,14 +5,11 @@ use native.Mathlib.Omega.{arith}
 use borrow.Author.Tests.{eq-eqb, ne-eqb}
 use Rattle.extents.specs.Stretches.{slotExtent}
 use borrow.Author.Needs.{needs}
-
 -- `extents::slot_extent` meets its contract. The size of a grid is read where the slot is not empty: then its first word is inside the file.
 -- Assumes nothing.
 use mathlib.Core.Path.{sym, _∙_}
 use native.Mathlib.Omega.{arith}
-use denote.Ref.{now}
 use borrow.Author.Tests.{eq-eqb, ne-eqb}
-use Rattle.endian.specs.Words.{wordAt}
 use Rattle.extents.specs.Stretches.{slotExtent}
 use borrow.Author.Needs.{needs}
 use Rattle.extents.proofs.slot_extent.Statement.{statement}

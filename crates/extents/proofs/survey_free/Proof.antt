@@ -1,6 +1,6 @@
 -- `extents::survey_free` meets its contract: after so many turns the loop is at the run of that number, and each run before it has words.
 -- Assumes nothing.
-use mathlib.Core.Path.{_≡_, refl, sym, ap, subst, _∙_}
+use mathlib.Core.Path.{_≡_, ap, subst, _∙_}
 use mathlib.Core.List.{List}
 use Prim.Native.Nat.{ℕ, suc, _+_, _-_, _/_, _<_}
 use native.Mathlib.Numerals.{add-one}
@@ -11,9 +11,8 @@ use Rattle.lists.proofs.Built.{length-listOf}
 use Rattle.endian.specs.Words.{wordAt}
 use Rattle.endian.specs.declared.Order.{Order}
 use Rattle.extents.specs.Stretches.{endOf, freeStretches}
-use Rattle.extents.specs.Steps.{Accepted, runAfter, run, survey}
+use Rattle.extents.specs.Steps.{Accepted, run, survey}
 use Rattle.extents.specs.declared.Extent.{Extent}
-use Rattle.extents.specs.declared.Survey.{Survey}
 use Rattle.extents.proofs.Runs.{run-inside, run-on, run-begin, run-more, all-some, runs-far, runs-are}
 use Rattle.extents.proofs.survey_free.Statement.{statement}
 use Rattle.extents.proofs.survey_free.Tie as tie

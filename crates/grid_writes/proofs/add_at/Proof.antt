@@ -16,7 +16,7 @@ use Rattle.extents.specs.Stretches.{firstWord, highestEnd}
 use Rattle.extents.specs.Steps.{Accepted, Slots}
 use Rattle.extents.specs.declared.Extent.{Extent}
 use Rattle.extents.proofs.Slots.{accepted-slots}
-use Rattle.grid_changes.specs.Changes.{setWord, nextFreeSet, lowestEmpty, gridWords, addressFor, addRules, gridPut, withGrid, added}
+use Rattle.grid_changes.specs.Changes.{nextFreeSet, lowestEmpty, gridWords, addressFor, addRules, gridPut, withGrid, added}
 use Rattle.grid_changes.specs.declared.Added.{Added}
 use Rattle.grid_changes.proofs.Addition.{newAddress, newBytes, gridIn, add-passes, add-place, added-slots, added-small, added-accepted}
 use Rattle.grid_writes.specs.Writes.{addStep}
@@ -86,7 +86,7 @@ first-of-requires : tie.Need-first-of-requires
 first-of-requires c κs = search needs
 
 write-grid-requires : tie.Need-write-grid-requires
-write-grid-requires c κs = 
+write-grid-requires c κs =
     let s = c .before .before .before .before .before .before .before in
     let a = s .args in
     let ok = passed (c .before .before .before) in
@@ -105,12 +105,12 @@ mul-write-number : tie.Need-mul-write-number
 mul-write-number c = search needs
 
 cast-write-number-2 : tie.Need-cast-write-number-2
-cast-write-number-2 c = 
+cast-write-number-2 c =
     let a = c .before .before .before .before .before .before .before .before .before .before .before .before .args in
     record { fits = omega (arith, add-place (a .order) (now (a .file)) (now (a .header)) (a .rows) (a .columns) (now (a .values)) (a .size) (passed (c .before .before .before .before .before .before .before .before)) .by-last, placed (c .before .before .before .before .before .before)) }
 
 write-number-requires : tie.Need-write-number-requires
-write-number-requires c κs = 
+write-number-requires c κs =
     let a = c .before .before .before .before .before .before .before .before .before .before .before .before .args in
     let ok = passed (c .before .before .before .before .before .before .before .before) in
     let p = add-passes (a .order) (now (a .file)) (length (now (a .header))) (a .rows) (a .columns) (length (now (a .values))) (a .size) .0 ok in
@@ -118,7 +118,7 @@ write-number-requires c κs =
     omega (arith, same, p .slot, numbered (c .before .before .before .before .before .before .before .before), accepted-slots (a .order) (now (a .file)) (p .asked .accepted) .room)
 
 set-next-free-requires : tie.Need-set-next-free-requires
-set-next-free-requires c κs = 
+set-next-free-requires c κs =
     let s = c .before .before .before .before .before .before .before .before .before .before .before .before .before .before .before .before in
     let a = s .args in
     let o = a .order in
@@ -128,14 +128,14 @@ set-next-free-requires c κs =
     (added-slots (a .order) (now (a .file)) (now (a .header)) (a .rows) (a .columns) (now (a .values)) (a .size) ok, omega (arith, added-small (a .order) (now (a .file)) (now (a .header)) (a .rows) (a .columns) (now (a .values)) (a .size) ok))
 
 survey-free-requires : tie.Need-survey-free-requires
-survey-free-requires c κs = 
+survey-free-requires c κs =
     let s = c .before .before .before .before .before .before .before .before .before .before .before .before .before .before .before .before .before .before .before .before in
     let a = s .args in
     subst (Accepted (a .order)) (sym (left (c .before .before .before))) (added-accepted (a .order) (now (a .file)) (now (a .header)) (a .rows) (a .columns) (now (a .values)) (a .size) (passed (c .before .before .before .before .before .before .before .before .before .before .before .before .before .before .before .before)))
 
 returns : tie.Need-returns
 unfolding addStep
-returns c = 
+returns c =
     let s = c .before .before .before .before .before in
     let a = s .args in
     step-fault (firstFault (addRules (a .order) (now (a .file)) (length (now (a .header))) (a .rows) (a .columns) (length (now (a .values))) (a .size))) _ (a .order) (now (a .file)) _ _
@@ -146,7 +146,7 @@ same-length c = search needs
 
 returns-2 : tie.Need-returns-2
 unfolding addStep
-returns-2 c = 
+returns-2 c =
     let a = c .before .before .before .before .before .before .before .before .before .before .before .before .before .before .before .before .before .before .before .before .before .args in
     let count = c .survey-free .result .count in
     ap (λ (x : Added). ((gives x, count), c .before .before .before .before .set-next-free .last .0))

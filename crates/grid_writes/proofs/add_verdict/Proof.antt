@@ -71,7 +71,7 @@ check-requires-7 c κs = search needs
 
 returns : tie.Need-returns
 unfolding chained
-returns c = 
+returns c =
     let a = c .before .before .before .before .before .before .before .before .before .before .before .before .before in
     let o = a .args .order in
     let f = now (a .args .file) in

@@ -55,13 +55,13 @@ unfolding withoutGrid
 left c = let a = c .before .before .before .before .before .before .before .before .before .before .before .args in c .set-next-free .ensures ∙ ap (nextFreeSet (a .order)) (emptied (c .before .before .before .before))
 
 write-number-requires : tie.Need-write-number-requires
-write-number-requires c κs = 
+write-number-requires c κs =
     let a = c .before .before .before .before .before .before .args in
     let d = delete-passes (a .order) (now (a .file)) (a .number) (a .size) .0 (passed (c .before)) in
     omega (arith, accepted-slots (a .order) (now (a .file)) (d .accepted) .room, d .to)
 
 set-next-free-requires : tie.Need-set-next-free-requires
-set-next-free-requires c κs = 
+set-next-free-requires c κs =
     let a = c .before .before .before .before .before .before .before .before .before .before .args in
     let pass = passed (c .before .before .before .before .before) in
     subst (λ (f : List ℕ). Slots (length f) (wordAt (a .order) f) × (highestEnd (wordAt (a .order) f) (firstWord (wordAt (a .order) f)) (wordAt (a .order) f 10) < 2147483648))
@@ -69,7 +69,7 @@ set-next-free-requires c κs =
     (deleted-slots (a .order) (now (a .file)) (a .number) (a .size) pass, deleted-small (a .order) (now (a .file)) (a .number) (a .size) pass)
 
 survey-free-requires : tie.Need-survey-free-requires
-survey-free-requires c κs = 
+survey-free-requires c κs =
     let a = c .before .before .before .before .before .before .before .before .before .before .before .before .before .before .args in
     subst (Accepted (a .order)) (sym (left (c .before .before .before))) (deleted-accepted (a .order) (now (a .file)) (a .number) (a .size) (passed (c .before .before .before .before .before .before .before .before .before)))
 
@@ -78,7 +78,7 @@ same-length c = search needs
 
 returns : tie.Need-returns
 unfolding deleteStep
-returns c = 
+returns c =
     let a = c .before .before .before .before .before .before .args in
     step-fault (firstFault (deleteRules (a .order) (now (a .file)) (a .number) (a .size))) _ (a .order) (now (a .file)) _ _ (sym (c .before .before .before .delete-verdict .ensures) ∙ c .before .refusal .given .1)
 
@@ -87,7 +87,7 @@ same-length-2 c = search needs
 
 returns-2 : tie.Need-returns-2
 unfolding deleteStep
-returns-2 c = 
+returns-2 c =
     let a = c .before .before .before .before .before .before .before .before .before .before .before .before .before .before .before .args in
     step-pass (firstFault (deleteRules (a .order) (now (a .file)) (a .number) (a .size))) _ (a .order) (now (a .file)) _ (passed (c .before .before .before .before .before .before .before .before .before .before)) _ (left (c .before .before .before .before)) _ (c .survey-free .ensures)
 

@@ -22,7 +22,7 @@ found : (w : ℕ → ℕ) (k : ℕ) → k ≤ w 10 → ((q : ℕ) → q < k → 
 unfolding lowestEmpty
 found w k most before here =
     sym (lowest-exactly (isEmpty w) 0 (w 10) k .1 (
-      record { from = omega arith; to = omega (arith, most); none = λ q l m. before q m; holds = λ l. here (omega (arith, l)) }
+    record { from = omega arith; to = omega (arith, most); none = λ q l m. before q m; holds = λ l. here (omega (arith, l)) }
     ))
 
 abbrev Inv-loop : tie.InvT-loop

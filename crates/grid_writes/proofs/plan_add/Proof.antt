@@ -85,22 +85,22 @@ add-t23 c = record { fits = omega (arith, points (c .before .before .before .bef
 
 sub-t24 : tie.Need-sub-t24
 unfolding survey
-sub-t24 c = 
+sub-t24 c =
     let a = c .before .before .before .before .before .before .before .before .before .before .before .args in
     omega (arith, pass-some (a .order) (now (a .file)) (a .headers) (a .rows) (a .columns) (a .values) (a .size) (passed (c .before .before .before .before)), ap (λ (s : Survey). s .count) (c .before .before .survey-free .ensures))
 
 returns : tie.Need-returns
-returns c = 
+returns c =
     let a = c .before .before .before .before .before .before .args in
     c .refused .ensures ∙ plan-fault (a .order) (now (a .file)) (a .headers) (a .rows) (a .columns) (a .values) (a .size) _ (sym (add-file (a .order) (now (a .file)) (a .headers) (a .rows) (a .columns) (a .values) (a .size) _ (sym (c .before .before .before .before .file-verdict .ensures) ∙ c .before .before .refusal .given .1)))
 
 returns-2 : tie.Need-returns-2
-returns-2 c = 
+returns-2 c =
     let a = c .before .before .before .before .before .before .before .before .before .args in
     c .refused2 .ensures ∙ plan-fault (a .order) (now (a .file)) (a .headers) (a .rows) (a .columns) (a .values) (a .size) _ (sym (c .before .before .before .before .add-verdict .ensures) ∙ c .before .before .refusal2 .given .1)
 
 returns-3 : tie.Need-returns-3
-returns-3 c = 
+returns-3 c =
     let a = c .before .before .before .before .before .before .before .before .before .before .before .args in
     plan-pass (a .order) (now (a .file)) (a .headers) (a .rows) (a .columns) (a .values) (a .size) (passed (c .before .before .before .before)) _ (c .before .before .before .lowest-empty .ensures) _ (c .before .before .survey-free .ensures)
 
