@@ -7,22 +7,21 @@ use mathlib.Core.Logic.{_⊎_, inl, inr, ⊎-elim, _↔_}
 use mathlib.Core.List.{List, [], _∷_, _++_}
 use Prim.Native.Nat.{ℕ, _+_, _-_, _*_, _/_, _≤_, _<_}
 use native.Mathlib.Omega.{arith}
-use lib.Dec.{ltb, eqb}
+use lib.Dec.{ltb}
 use lib.IntN.{ℤ}
 use lib.ListN.{length}
 use borrow.Author.Tests.{le-leb, lt-ltb, ltb-true, ltb-false, eqb-false, eq-eqb}
 use Rattle.lists.proofs.Lowest.{lowest-is}
 use Rattle.endian.specs.Words.{wordAt}
 use Rattle.endian.specs.declared.Order.{Order}
-use Rattle.refusal.specs.Rules.{Rule, rule, judge, first, firstFault, tabled, Hold}
+use Rattle.refusal.specs.Rules.{Rule, rule, judge, first, firstFault, tabled}
 use Rattle.refusal.specs.Answers.{gives, refuses}
-use Rattle.refusal.specs.Tests.{within}
 use Rattle.refusal.specs.declared.Refusal.{Refusal}
 use Rattle.refusal.specs.declared.Verdict.{Verdict}
 use Rattle.refusal.specs.declared.Verdict.the-variants.{Pass, Fault}
-use Rattle.refusal.proofs.Answers.{gives-refuses, refuses-same}
+use Rattle.refusal.proofs.Answers.{gives-same, gives-refuses, refuses-same}
 use Rattle.refusal.proofs.Exactness.{within-exactly}
-use Rattle.refusal.proofs.Tables.{fault-pass, hold-pass, pass-joined, also}
+use Rattle.refusal.proofs.Tables.{fault-pass, pass-joined}
 use Rattle.grid_rules.specs.Rules.{emptySlot, isEmpty, gridEnd, fileRules, wantedRules}
 use Rattle.grid_rules.specs.Accepts.{Full, AcceptsFile}
 use Rattle.grid_rules.proofs.Slots.{number-slot, Misses}
@@ -30,10 +29,11 @@ use Rattle.grid_rules.proofs.Acceptance.{GridAt, file-passes, slot-grid, number
 use Rattle.extents.specs.Rooms.{hasRoom}
 use Rattle.extents.specs.declared.Extent.{Extent}
 use Rattle.extents.proofs.Free.{fails, own-exactly}
-use Rattle.extents.proofs.Fit.{Fits, room-exactly}
-use Rattle.grid_changes.specs.Changes.{stretchesOf, tableRule, changed, deleteRules, withoutGrid, gridWords, lowestEmpty, addressFor, addRules, withGrid, added, addGrid}
+use Rattle.extents.proofs.Fit.{Fits, lowest-address, room-exactly}
+use Rattle.grid_changes.specs.Changes.{stretchesOf, changed, deleteRules, withoutGrid, gridWords, lowestEmpty, addressFor, addOwn, addRules, withGrid, added, addGrid}
+use Rattle.grid_changes.specs.declared.Added.{Added}
 use Rattle.grid_changes.proofs.Deleted.{Deletes, delete-passes, deleted-length, deleted-accepted, deleted-words, deleted-count, deleted-slot, deleted-behind}
-use Rattle.grid_changes.proofs.Addition.{AddAsked, add-passes, slot-empty}
+use Rattle.grid_changes.proofs.Addition.{AddAsked, AddPasses, add-passes, slot-empty}
 
 -- ---- the order of the rules
 
@@ -120,25 +120,16 @@ fourteen false room h = absurd (false≢true h)
 add-decided : (o : Order) (f : List ℕ) (headers rows columns values size : ℕ) → AddAsked o f headers rows columns values size
     → firstFault (addRules o f headers rows columns values size)
     ≡ firstFault (lastRules (ltb (lowestEmpty (wordAt o f)) (wordAt o f 10)) (hasRoom (wordAt o f) (length f / 4) (gridWords rows columns)))
-unfolding addRules
+unfolding addRules firstFault judge first
 add-decided o f headers rows columns values size a =
-    let w : ℕ → ℕ = wordAt o f in
-    let last : List Rule = lastRules (ltb (lowestEmpty w) (w 10)) (hasRoom w (length f / 4) (gridWords rows columns)) in
-    let before : List Rule =
-    tableRule w size
-    ∷ rule (within 1 65535 rows) 3 0
-    ∷ rule (within 1 65535 columns) 3 0
-    ∷ rule (eqb values (rows * columns)) 12 0
-    ∷ rule (eqb headers 256) 12 0
-    ∷ [] in
-    let hold : Hold before =
-    also (le-leb (w 10 + 1) size (a .table))
-    (also (within-exactly 1 65535 rows .complete (a .some-rows))
-    (also (within-exactly 1 65535 columns .complete (a .some-columns))
-    (also (eq-eqb values (rows * columns) (a .all-values))
-    (also (eq-eqb headers 256 (a .whole-header))
-    tt)))) in
-    sym (pass-joined (fileRules (length f) w) (before ++ last) (a .accepted)) ∙ sym (pass-joined before last (hold-pass before hold))
+    sym (pass-joined (fileRules (length f) (wordAt o f)) (addOwn o f headers rows columns values size) (a .accepted))
+    ∙ rw (
+      le-leb (wordAt o f 10 + 1) size (a .table),
+      within-exactly 1 65535 rows .complete (a .some-rows),
+      within-exactly 1 65535 columns .complete (a .some-columns),
+      eq-eqb values (rows * columns) (a .all-values),
+      eq-eqb headers 256 (a .whole-header),
+    )
 
 module _ (o : Order) (f header : List ℕ) (rows columns : ℕ) (values : List ℤ) (t : List Extent)
     (asked : AddAsked o f (length header) rows columns (length values) (length t)) where
@@ -172,6 +163,41 @@ module _ (o : Order) (f header : List ℕ) (rows columns : ℕ) (values : List �
             add-refused (refusal 14) .1
             (x .1 (fails (own-exactly (hasRoom w (length f / 4) (gridWords rows columns))) (λ e. let y = room .0 e in h (y .0) (y .1)))),
       )
+
+-- ---- what adding answers
+
+-- what either call gives is the value of the number of free stretches, and its rules have passed
+changed-gives : {Value : Type 0} (v : Verdict) (value : ℕ → Value) (o : Order) (f g : List ℕ) (t : List Extent) (x : Value)
+    → changed v value o f g t .0 ≡ gives x → (v ≡ Pass) × (value (length (stretchesOf o g)) ≡ x)
+changed-gives Pass value o f g t x e = (refl, gives-same e)
+changed-gives (Fault r) value o f g t x e = gives-refuses (sym e)
+
+module _ (o : Order) (f header : List ℕ) (rows columns : ℕ) (values : List ℤ) (t : List Extent) (a : Added)
+    (is : addGrid o f header rows columns values t .0 ≡ gives a) where
+  answer : (firstFault (addRules o f (length header) rows columns (length values) (length t)) ≡ Pass)
+      × (added o f rows columns (length (stretchesOf o (withGrid o f header rows columns values))) ≡ a)
+  unfolding addGrid
+  answer =
+      changed-gives (firstFault (addRules o f (length header) rows columns (length values) (length t))) (added o f rows columns) o f
+      (withGrid o f header rows columns values) t a is
+
+  passes : AddPasses o f (length header) rows columns (length values) (length t)
+  passes = add-passes o f (length header) rows columns (length values) (length t) .0 (answer .0)
+
+  -- "the lowest-numbered empty slot": the slot of the number that is answered is empty, and every lower one has a grid
+  pub adds-lowest-slot : (wordAt o f (10 + a .number) ≡ emptySlot) × ((i : ℕ) → i + 1 < a .number → Full (wordAt o f) i)
+  adds-lowest-slot =
+      let number : a .number ≡ lowestEmpty (wordAt o f) + 1 = sym (ap (λ (x : Added). x .number) (answer .1)) in
+      let same : 10 + a .number ≡ 11 + lowestEmpty (wordAt o f) = omega (arith, number) in
+      (ap (wordAt o f) same ∙ slot-empty (wordAt o f) (passes .slot), λ i l. slot-lower (wordAt o f) i (omega (arith, l, number)))
+
+  -- "the lowest word address": at the address that is answered the grid's words fit, and at no lower one
+  pub adds-lowest-address : Fits (wordAt o f) (length f / 4) (gridWords rows columns) (a .address)
+      × ((q : ℕ) → q < a .address → ¬ Fits (wordAt o f) (length f / 4) (gridWords rows columns) q)
+  adds-lowest-address =
+      subst (λ (x : ℕ). Fits (wordAt o f) (length f / 4) (gridWords rows columns) x × ((q : ℕ) → q < x → ¬ Fits (wordAt o f) (length f / 4) (gridWords rows columns) q))
+      (ap (λ (x : Added). x .address) (answer .1))
+      (lowest-address (wordAt o f) (length f / 4) (gridWords rows columns) (lt-ltb (addressFor o f (gridWords rows columns)) (length f / 4) (passes .room)))
 
 -- ---- room for a grid where one was deleted
 
