@@ -4,4 +4,5 @@ pub mod Deleted
 pub mod GridBytes
 pub mod Addition
 pub mod Exact
+pub mod Answers
 pub mod Worked

@@ -4,6 +4,7 @@ use mathlib.Core.Path.{_≡_, refl, sym, ap, subst, _∙_}
 use mathlib.Core.List.{List, [], _∷_, List·Memᴰ·head, List·Memᴰ·tail, List·Memᴰ·not-nil, List·Permᴰ·swap, Permᴰ·refl}
 use Prim.Native.Nat.{ℕ}
 use lib.IntN.{ℤ}
+use lib.ListN.{getD}
 use mir.Syntax.{w32}
 use mir.Val.{SFits}
 use Rattle.endian.specs.declared.Order.{Order}
@@ -22,11 +23,22 @@ use Rattle.places.specs.declared.What.the-variants.{Point}
 use Rattle.places.proofs.Places.{Located, point-at, points-named}
 use Rattle.values.specs.Reading.{readPoint}
 use Rattle.values.proofs.Reading.{point-located}
-use Rattle.store_plans.specs.Stores.{Store, signed, point, planOf, storesIn, storePoint, stores}
+use Rattle.store_plans.specs.Stores.{Store, Done, signed, point, planOf, storesIn, storePoint, storeFormat}
 use Rattle.store_plans.proofs.Stores.{order-does-not-matter}
 use Rattle.store_plans.proofs.Single.{reads-back, done-at, word-done}
-use Rattle.grid_correction.specs.Corrections.{correctedBy, correctPoint, storeOf, correctTwo}
+use Rattle.grid_correction.specs.Corrections.{correctedBy, correctPoint, storeOf, twoSay, correctTwo}
+use Rattle.stores.proofs.Answers.{store-settled}
 use Rattle.grid_correction.specs.declared.Correction.{Correction}
+use Rattle.grid_correction.specs.declared.TwoAnswers.{TwoAnswers}
+
+-- what two answers say settles them
+pub two-settled : (x y : TwoAnswers) → twoSay x ≡ twoSay y → x ≡ y
+two-settled x y e =
+    λ i.
+    record {
+      first = store-settled (x .first) (y .first) (ap (λ (l : List Done). getD l 0 (gives tt)) e) i;
+      second = store-settled (x .second) (y .second) (ap (λ (l : List Done). getD l 1 (gives tt)) e) i;
+    }
 
 -- a store of a point that can be read succeeds, and the point then reads the value
 stored-reads : (f : List ℕ) (l : Layout) (r c : ℕ) (v old : ℤ) → SFits w32 v → readPoint f l r c ≡ gives old
@@ -77,7 +89,7 @@ either-order f l x y typed typed′ other =
     two = storeOf l x ∷ storeOf l y ∷ []
 
     Fit : Store → Type 0
-    Fit s = system stores (record { kind = kindOf l; order = orderOf l }) .Fit s
+    Fit s = system storeFormat (record { kind = kindOf l; order = orderOf l }) .Fit s
 
     fit : All Fit two
     fit s (List·Memᴰ·head same) = subst Fit (sym same) (refl, typed)

@@ -14,6 +14,7 @@ use Rattle.plan.specs.Stores.{Succeeds, Laws}
 use Rattle.plan.specs.Claims.{Demand3, Demand3Runs, Request13}
 use Rattle.plan.specs.Formats.{Format, plan, system, Writes, FormatLaws}
 use Rattle.plan.specs.Calls.{CallSystem, CallLaws, Demand3Calls, Request13Calls}
+use Rattle.plan.proofs.Plans.{refuse-write}
 use Rattle.plan.proofs.Claims.{order-free, runs-free, last-stands}
 use Rattle.plan.proofs.Calls.{calls-free, calls-last}
 
@@ -33,7 +34,7 @@ on-lattice i base w j k h₁ h₂ h₃ h₄ = step (decLt j k) (decLt k j)
 pub pick-write : {A : Type 0} (t : Bool) (p : Plan A) (r q : A) (a : ℕ) (b : List ℕ) → pick t p (refuse r) ≡ write q a b
     → (t ≡ true) × (p ≡ write q a b)
 pick-write true p r q a b e = (refl, e)
-pick-write false p r q a b e = let z : _≡_ {A = ℕ} 0 1 = cc in let y : ⊥ = omega arith in absurd y
+pick-write false p r q a b e = refuse-write e
 
 module _ {Store Key Opened Answer Value : Type 0} (F : Format Store Key Opened Answer Value) (W : FormatLaws F) where
   -- a store that writes has a fresh layout

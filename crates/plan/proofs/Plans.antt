@@ -13,6 +13,10 @@ use Rattle.lists.proofs.Stores.{Where, inside, outside, where-is, sets-outside,
 use Rattle.plan.specs.Plans.{Plan, write, refuse, after, SucceedsAt, succeedsAt, Covers}
 
 module _ {Answer : Type 0} where
+  -- a plan that refuses is none that writes
+  pub refuse-write {ℓ} : {A : Type ℓ} {r q : Answer} {a : ℕ} {b : List ℕ} → refuse r ≡ write q a b → A
+  refuse-write e = let z : _≡_ {A = ℕ} 0 1 = cc in let y : ⊥ = omega arith in absurd y
+
   -- the place of a plan is inside a file of n bytes
   abbrev pub Inside : ℕ → Plan Answer → Type 0
   Inside n (write r a b) = a + length b ≤ n

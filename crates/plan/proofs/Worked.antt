@@ -16,6 +16,7 @@ use Rattle.plan.specs.Series.{leaves, replies}
 use Rattle.plan.specs.Stores.{fileAfter, answers}
 use Rattle.plan.specs.Claims.{Demand3}
 use Rattle.plan.specs.Formats.{Format, plan, system, Writes, FormatLaws}
+use Rattle.plan.proofs.Plans.{refuse-write}
 use Rattle.plan.proofs.Formats.{demand3}
 
 -- a store of one byte: the layout, the index and the byte
@@ -62,7 +63,7 @@ written s r a b = step (ltb (s .index) (s .size)) refl
     step : (t : Bool) → ltb (s .index) (s .size) ≡ t → pick t (write stored (s .index) (s .byte ∷ [])) (refuse outside) ≡ write r a b
         → Is s a b
     step true e q = record { room = ltb-true (s .index) (s .size) e; address = cc; bytes = cc }
-    step false e q = let z : _≡_ {A = ℕ} 0 1 = cc in let y : ⊥ = omega arith in absurd y
+    step false e q = refuse-write q
 
 of : {f : List ℕ} {s : Put} {a : ℕ} {b : List ℕ} → Writes cells f s a b → Is s a b
 of {s = s} {a = a} {b = b} w = written s (w .told) a b (w .planned)

@@ -23,7 +23,7 @@ use Rattle.places.proofs.Places.{Located}
 use Rattle.places.proofs.Refusals.{place-never}
 use Rattle.values.specs.Reading.{placeIn, IsWord}
 use Rattle.values.proofs.Reading.{word-width, place-exactly, place-stale}
-use Rattle.store_plans.specs.Stores.{Store, Request, sample, point, field, whatOf, numberIn, bitsOf, InType, Done, putIn, planOf, storesIn, readBack, stores}
+use Rattle.store_plans.specs.Stores.{Store, Request, sample, point, field, whatOf, numberIn, bitsOf, InType, Done, putIn, planOf, storesIn, readBack, storeFormat}
 use Rattle.store_plans.proofs.Puts.{Comes, none, large, there, put-there, put-large, plan-by-place, coming}
 use Rattle.store_plans.proofs.Stores.{order-does-not-matter}
 
@@ -134,8 +134,8 @@ module _ (f : List ℕ) (l : Layout) (q : Request) where
       let (a, at) = order-does-not-matter .succeeds f self .1 e in
       ap (λ (g : List ℕ). readBack g l q) (d .same (self ∷ []) (Permᴰ·refl (self ∷ []))) ∙ d .stored self (List·Memᴰ·head refl) a at
     where
-      fit : All (system stores (record { kind = kindOf l; order = orderOf l }) .Fit) (self ∷ [])
-      fit s (List·Memᴰ·head same) = subst (system stores (record { kind = kindOf l; order = orderOf l }) .Fit) (sym same) (refl, typed)
+      fit : All (system storeFormat (record { kind = kindOf l; order = orderOf l }) .Fit) (self ∷ [])
+      fit s (List·Memᴰ·head same) = subst (system storeFormat (record { kind = kindOf l; order = orderOf l }) .Fit) (sym same) (refl, typed)
       fit s (List·Memᴰ·tail m) = absurd (List·Memᴰ·not-nil m)
 
 -- ---- stores of signed words

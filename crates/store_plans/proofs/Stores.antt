@@ -22,8 +22,9 @@ use Rattle.endian.proofs.Places.{number-held, number-frame, word-number, words-
 use Rattle.refusal.specs.Answers.{Answer, gives, refuses, mapped}
 use Rattle.refusal.specs.declared.Place.{Place}
 use Rattle.refusal.proofs.Answers.{gives-refuses}
-use Rattle.plan.specs.Plans.{Plan, write, refuse, answer, outcome, SucceedsAt, Holds}
+use Rattle.plan.specs.Plans.{Plan, write, answer, outcome, SucceedsAt, Holds}
 use Rattle.plan.specs.Formats.{Writes, FormatLaws}
+use Rattle.plan.proofs.Plans.{refuse-write}
 use Rattle.plan.proofs.Formats.{demand3-runs}
 use Rattle.area.specs.Opening.{openArea}
 use Rattle.area.specs.declared.AreaLayout.{AreaLayout}
@@ -44,7 +45,7 @@ use Rattle.places.specs.Places.{placeOf}
 use Rattle.places.specs.declared.What.{What}
 use Rattle.places.proofs.Places.{Located, sample-at, point-at, field-at, located, place-inside, base, wide, place-lattice}
 use Rattle.values.specs.Reading.{placeIn, readSample, readWord}
-use Rattle.store_plans.specs.Stores.{unsigned, signed, Request, sample, point, field, Store, whatOf, numberIn, bitsOf, InType, Done, putIn, within, readBack, stores, planOf, storesIn, OrderDoesNotMatter}
+use Rattle.store_plans.specs.Stores.{unsigned, signed, Request, sample, point, field, Store, whatOf, numberIn, bitsOf, InType, Done, putIn, within, readBack, storeFormat, planOf, storesIn, OrderDoesNotMatter}
 use Rattle.store_plans.proofs.Puts.{Comes, none, large, there, comes, coming}
 use Rattle.values.proofs.Reading.{word-width, place-exactly}
 
@@ -61,10 +62,6 @@ record Put (o : Order) (n : ℕ) (x : Answer Place) (a : ℕ) (b : List ℕ) : T
 -- equal plans that write have one address and the same bytes
 write-same : {r q : Done} {a c : ℕ} {b d : List ℕ} → write r a b ≡ write q c d → (a ≡ c) × (b ≡ d)
 write-same e = (cc, cc)
-
--- a plan that refuses writes nothing
-refuse-write : {A : Type 0} {r q : Done} {a : ℕ} {b : List ℕ} → refuse r ≡ write q a b → A
-refuse-write e = let z : _≡_ {A = ℕ} 0 1 = cc in let y : ⊥ = omega arith in absurd y
 
 put : (o : Order) (n : ℕ) (x : Answer Place) (r : Done) (a : ℕ) (b : List ℕ) → putIn o n x ≡ write r a b → Put o n x a b
 put o n x r a b = step (putIn o n x) (comes o n x)
@@ -92,7 +89,7 @@ record Stored (f : List ℕ) (s : Store) (a : ℕ) (b : List ℕ) : Type 0 where
   bytes : b ≡ encode (orderIn s) (place .width) (bitsIn s)
   small : bitsIn s < 256 ^ place .width
 
-stored : {f : List ℕ} {s : Store} {a : ℕ} {b : List ℕ} → Writes stores f s a b → Stored f s a b
+stored : {f : List ℕ} {s : Store} {a : ℕ} {b : List ℕ} → Writes storeFormat f s a b → Stored f s a b
 unfolding within
 stored {f} {s} {a} {b} w =
     let p = put (orderIn s) (bitsIn s) (placeOf (s .layout) (whatOf (s .request))) (w .told) a b (w .planned) in
@@ -216,7 +213,7 @@ reads f l (field r c k v) typed w h = rw (here w h) (ap (λ (x : ℤ). gives (si
 -- ---- demand 3
 
 -- what the theory of stores asks of a format
-pub store-laws : FormatLaws stores
+pub store-laws : FormatLaws storeFormat
 store-laws =
     record {
       exact = λ s x. let e = that-exactly (s .layout) x in (e .sound, e .complete);
@@ -250,6 +247,6 @@ succeeds f s = (λ h. to (planOf f s) comes-of (h .0) (h .1), from (planOf f s) 
 pub order-does-not-matter : OrderDoesNotMatter
 order-does-not-matter =
     record {
-      claim = λ kind order. demand3-runs stores store-laws (record { kind = kind; order = order });
+      claim = λ kind order. demand3-runs storeFormat store-laws (record { kind = kind; order = order });
       succeeds = succeeds;
     }

@@ -94,8 +94,8 @@ pub record Key : Type 0 where
   pub order : Order
 
 -- the stores of single values, of all three kinds
-abbrev pub stores : Format Store Key (Answer Layout) Done (Answer Number)
-stores =
+abbrev pub storeFormat : Format Store Key (Answer Layout) Done (Answer Number)
+storeFormat =
     record {
       key = λ s. record { kind = kindOf (s .layout); order = orderOf (s .layout) };
       grid = λ s. numberOf (s .layout);
@@ -111,7 +111,7 @@ stores =
 
 -- what a store does to a file: 9 where its layout is stale
 abbrev pub planOf : List ℕ → Store → Plan Done
-planOf = plan stores
+planOf = plan storeFormat
 
 -- what it is answered, and the file that it leaves
 abbrev pub storesIn : List ℕ → Store → Done × List ℕ
@@ -132,6 +132,6 @@ storeField f l r c k v = storesIn f (record { layout = l; request = field r c k 
 -- Demand 3 of the stores of single values: see `Demand3`, `OrderFree` and `OrderFreeRuns`. A run is one of functions whose contracts say `storesIn`.
 pub record OrderDoesNotMatter : Type 0 where
   -- the claim, for "one kind, one byte order"
-  pub claim : (kind : Kind) (order : Order) → Demand3Runs (system stores (record { kind = kind; order = order }))
+  pub claim : (kind : Kind) (order : Order) → Demand3Runs (system storeFormat (record { kind = kind; order = order }))
   -- the stores that succeed, as the claim has it, are those that are answered that they are done: "succeeds, that is, isn't refused"
   pub succeeds : (f : List ℕ) (s : Store) → ((a : ℕ) × SucceedsAt a (planOf f s)) ↔ (storesIn f s .0 ≡ gives tt)
