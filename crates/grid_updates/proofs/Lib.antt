@@ -1,5 +1,1 @@
-pub mod Calls
-pub mod FileCalls
-pub mod Held
-pub mod Slices
-pub mod TableCalls
+pub mod Filling

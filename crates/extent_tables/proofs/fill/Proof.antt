@@ -19,6 +19,7 @@ use prog.Memory.{Memory}
 use prog.Routine.{Routine}
 use prog.Wp.{Heap, Out, Env, Calls, WpFn, Tables, afterTurn}
 use ghost.Atoms.{Atoms, sem}
+use contract.Lifetimes.{Lfts, Shares}
 use contract.Monad.{Fun, factI}
 use contract.Running.{givenOf, tables, tablesOf}
 use types.Kit.{Given, Item, ‵, raw, _⊛_, ⋆, mean, given, later, prop, runs, anyQ, atRet, Sq, _$_, _∵_, !, qed, by, move, drop, use1, group, split, join, learn, rewrite, fsplit, fjoin, feqI, suffices, frame, await, done}
@@ -27,25 +28,22 @@ use types.Run.{look, store, store-raw, init, forget, stop, hop, fld, from, load,
 use sound.WpLaws.{FmC, fmOf}
 use denote.RattleType.{owns}
 use denote.Laws.{Is, shows}
-use denote.Plain.{uint-vals, uint-tells}
+use denote.Plain.{Nothing}
 use denote.Builtin.{u8, usize}
 use denote.Ref.{RefT, now}
-use denote.Slice.{sliceVal, ShrSlice, MutSlice, heres, Room, slice-vals, mut-slice-tells, shr-slice-tells, shr-slice-lawful, shr-slice-copy, codedHoleys}
+use denote.Slice.{sliceVal, ShrSlice, MutSlice, heres, Room, shr-slice-copy, codedHoleys}
 use denote.Lend.{Held}
 use denote.Index.{place-is, row, elem-out, elem-put, opens-slice}
 use denote.Signature.{plain}
 use denote.Steps.{only, nothing, owned}
-use denote.Enum.Laws as EL
 use denote.Triple.Statement.{Triple}
-use denote.Triple.Entry.{Vals, onEntry}
+use denote.Triple.Entry.{Args, Vals, onEntry}
 use denote.Triple.Spec.{tripleOf}
 use denote.Triple.Table.{cited}
-use denote.Triple.Walked.{says, needs, Stays, AllGo, stay-dropped, stay-slice, walkOf, goes-dropped, goes-slice, Walks, ends-at, walked}
-use denote.Exit.{yes}
+use denote.Triple.Walked.{says, needs, ends-at}
 use Rattle.endian.specs.declared.Order.{Order}
 use Rattle.endian.specs.Words.{wordAt}
 use Rattle.endian.proofs.Order as O
-use Rattle.endian.proofs.Order.Laws as O′
 use Rattle.lists.specs.Lists.{listOf, over}
 use Rattle.lists.proofs.Filled.{filled-length, filled-more, over-listOf}
 use Rattle.extents.specs.declared.Extent.{Extent}
@@ -59,12 +57,13 @@ use Rattle.extents.proofs.directory.Met as start-met
 use Rattle.extents.proofs.run_after as step
 use Rattle.extents.proofs.run_after.Symbol as step-def
 use Rattle.extents.proofs.run_after.Met as step-met
-use Rattle.extent_tables.proofs.Again.{closes-as}
-use Rattle.extent_tables.proofs.Answers.{answered}
-use Rattle.extent_tables.proofs.Extents.{value, values, tells, lawful, makes, ToldExtent, order-value, makes-order, file-slot, order-slot, size-slot}
-use Rattle.extent_tables.proofs.Locals.{Addresses, env, Holding, empty, holds, cell, cells, starts, frees-all, at}
-use Rattle.extent_tables.proofs.Proved.{proved}
-use Rattle.extent_tables.proofs.Turn.{after, Upto, Nearer, nearer-wf, Turned}
+use Rattle.walks.proofs.Again.{closes-as}
+use Rattle.walks.proofs.Calls.{answered}
+use Rattle.extent_tables.proofs.Extents.{value, values, tells, lawful, makes, ToldExtent, order-value, makes-order, an-order}
+use Rattle.walks.proofs.Known.{Parameter, number, by-value, seen, held, knowns, stays, Related, typed}
+use Rattle.walks.proofs.Locals.{Addresses, env, Holding, empty, holds, cell, cells, starts, frees-all, at}
+use Rattle.walks.proofs.Proved.{Done, proved}
+use Rattle.walks.proofs.Loops.{after, Upto, Nearer, nearer-wf, Turned}
 use Rattle.extent_tables.proofs.fill as self
 use Rattle.extent_tables.proofs.fill.Code as code
 use Rattle.extent_tables.proofs.fill.Code.Mir as Mir
@@ -78,18 +77,9 @@ more = after (after Mir.turn-1)
 abbrev rest : Body
 rest = Mir.t-4
 
--- at exit only the table is wanted
-abbrev stayed : Stays (self.ended .signature .params) (self.ended .kept)
-stayed = (stay-slice (0 ∷ []) tt (plain (λ _. X.the-row)), (stay-dropped file-slot yes, (stay-dropped order-slot yes, (stay-dropped size-slot yes, tt))))
-
-goes : {M : Type 1} (𝓤 : URA M) (H : Heap 𝓤) (A : Atoms 𝓤) (W : Given 𝓤 H A) → AllGo 𝓤 H A W 2 (self.ended .signature .params) (self.ended .kept) stayed
-goes 𝓤 H A W = (
-  goes-slice 𝓤 H A W 2 0 tt (plain (λ _. X.the-row)),
-  (
-    goes-dropped 𝓤 H A W 2 file-slot yes (λ κs x f. refl),
-    (goes-dropped 𝓤 H A W 2 order-slot yes (λ κs x f. refl), (goes-dropped 𝓤 H A W 2 size-slot yes (λ κs x f. refl), tt)),
-  ),
-)
+-- the table, the file, the order, and how many places are filled
+abbrev params : List (Parameter 2)
+params = held 0 tt X.the-row ∷ seen 1 tt u8 ∷ by-value an-order ∷ by-value (number w64) ∷ []
 
 -- the runs, at the start and a step further
 first-run : (o : Order) (f : List ℕ) → directory o f ≡ runAt o f 0
@@ -108,10 +98,53 @@ first-filled f ys = refl
 module _ {M : Type 1} (𝓤 : URA M) (H : Heap 𝓤) (A : Atoms 𝓤) (W : Given 𝓤 H A) (mem : Memory → SProp 𝓤) (run : Routine → Fun 𝓤) (𝓣 : Tables 𝓤 H)
     (known-start : Triple 𝓤 (𝓣 .C start-def.name) (tripleOf 𝓤 H A start.signature (start.spec 𝓤 H A mem run)))
     (known-step : Triple 𝓤 (𝓣 .C step-def.name) (tripleOf 𝓤 H A step.signature (step.spec 𝓤 H A mem run)))
-    (κ κ′ : Lft) (q q′ : Share) (b o : ℕ) (γ : GName) (ys : List Extent) (file : RefT (List ℕ)) (order : Order) (n : ℕ)
-    (room : Room X.the-row (length ys)) (file-is : Is (ShrSlice (named 1) κ′ u8) file (sliceVal (file .ptr) (length (file .now)) ∷ []))
-    (order-is : Is O.the-row order (order-value order ∷ [])) (n-fits : n < 2 ^ 64)
-    (within : n ≤ length ys) (accepted : 0 < n → Accepted order (now file)) where
+    (κs : Lfts 2) (qs : Shares 2) (a : Args self.signature κs) (are : Related κs (knowns params) a)
+    (asked : (a .1 .1 .1 .0 ≤ length (a .0 .now)) × (0 < a .1 .1 .1 .0 → Accepted (a .1 .1 .0) (a .1 .0 .now))) where
+  abbrev κ : Lft
+  κ = κs .0
+
+  abbrev q : Share
+  q = qs .0
+
+  abbrev κ′ : Lft
+  κ′ = κs .1 .0
+
+  abbrev q′ : Share
+  q′ = qs .1 .0
+
+  abbrev b : ℕ
+  b = a .0 .ptr .0
+
+  abbrev o : ℕ
+  o = a .0 .ptr .1
+
+  abbrev γ : GName
+  γ = a .0 .name
+
+  abbrev ys : List Extent
+  ys = a .0 .now
+
+  abbrev file : RefT (List ℕ)
+  file = a .1 .0
+
+  abbrev order : Order
+  order = a .1 .1 .0
+
+  abbrev n : ℕ
+  n = a .1 .1 .1 .0
+
+  room : Room X.the-row (length ys)
+  room = are .0 .0 .1
+
+  order-is : Is O.the-row order (order-value order ∷ [])
+  order-is = are .1 .1 .0
+
+  n-fits : n < 2 ^ 64
+  n-fits = are .1 .1 .1 .0 .1
+
+  within : n ≤ length ys
+  within = asked .0
+
   abbrev C : Calls 𝓤 H
   C = 𝓣 .C
 
@@ -127,17 +160,11 @@ module _ {M : Type 1} (𝓤 : URA M) (H : Heap 𝓤) (A : Atoms 𝓤) (W : Given
   abbrev ov : Val
   ov = order-value order
 
-  abbrev Arg : Type 0
-  Arg = RefT (List Extent) × (RefT (List ℕ) × (Order × (ℕ × Unit {0})))
-
-  abbrev a : Arg
-  a = (record { ptr = (b, o); name = γ; now = ys }, (file, (order, (n, tt))))
-
-  abbrev vals : Vals self.signature (κ, (κ′, tt))
+  abbrev vals : Vals self.signature κs
   vals = (xv ∷ [], (fv ∷ [], (ov ∷ [], (vint w64 n ∷ [], tt))))
 
   abbrev Post : Val → SProp 𝓤
-  Post = walkOf 𝓤 H A self.ended stayed (self.clauses 𝓤 H A mem run) .post (((κ, (κ′, tt)), (q, (q′, tt)), tt, a, vals), tt)
+  Post = Done params (plain (λ _. Nothing)) 𝓤 H A (self.clauses 𝓤 H A mem run) κs qs a tt
 
   -- the runs, and the table with the first i places filled
   abbrev cur : ℕ → Extent
@@ -183,7 +210,7 @@ module _ {M : Type 1} (𝓤 : URA M) (H : Heap 𝓤) (A : Atoms 𝓤) (W : Given
 
     asks-step : ent 𝓤 (mean 𝓤 H A File) (C step-def.name (fv ∷ ov ∷ value (cur i) ∷ []) (λ u. mean 𝓤 H A (Ran (i + 1) u)))
     asks-step =
-        let ok : Accepted order (now file) = accepted (omega (arith, l)) in
+        let ok : Accepted order (now file) = asked .1 (omega (arith, l)) in
         passes (suffices ! _ (answered 𝓤 H A W C fm step.ended (step.clauses 𝓤 H A mem run) to-step
         (runAfter (wordAt order (now file)) (length (now file) / 4) (endOf (cur i))) (λ r e. id⊢ 𝓤 _) values tells (lawful 𝓤 H A W)
         (cur (i + 1)) (next-run order (now file) i) (sem 𝓤 H A OwnF) step-def.name known-step (factI 𝓤 _ (emp 𝓤) (ok, run-inside order (now file) ok i))) $
@@ -210,7 +237,7 @@ module _ {M : Type 1} (𝓤 : URA M) (H : Heap 𝓤) (A : Atoms 𝓤) (W : Given
   exits : (i : ℕ) → i ≤ n → i ≡ n → ent 𝓤 (⋆ 𝓤 H A (‵ (Own (so-far i)) ∷ ‵ (flft κ q) ∷ File ∷ [])) (Post vunit)
   exits i h e =
       qed W (‵ (Own (so-far i)) ∷ ‵ (flft κ q) ∷ File ∷ []) ∵
-      suffices ! _ (ends-at 𝓤 H A self.ended stayed (self.clauses 𝓤 H A mem run) W (((κ, (κ′, tt)), (q, (q′, tt)), tt, a, vals), tt) vunit tt
+      suffices ! _ (ends-at 𝓤 H A self.ended (stays params) (self.clauses 𝓤 H A mem run) W ((κs, qs, tt, a, vals), tt) vunit tt
       (so-far i, (tt, (tt, (tt, tt)))) (same i h, (tt, (tt, (tt, tt))))) $
       says ! (ap so-far e ∙ sym (over-listOf (λ j. cur (suc j)) n ys)) $
       move ! (2 ∷ []) $ split ! $ move ! (3 ∷ 0 ∷ []) $ join ! $ frame ! $ drop ! $ nothing ! $ nothing ! $ fjoin ! $ nothing ! $ fjoin ! $ nothing ! $ fjoin ! $
@@ -264,17 +291,11 @@ module _ {M : Type 1} (𝓤 : URA M) (H : Heap 𝓤) (A : Atoms 𝓤) (W : Given
         returns ! (look ! 3 refl) $ frees-all W ! (_ ∷ _ ∷ _ ∷ []) En (Holds (holds vunit) (i .0))
         (by ! (exits (i .0) (i .1 .0) (le-antisymm (i .1 .0) (nltb→le (i .0) n over)))))
 
-  walk : ent 𝓤 (onEntry 𝓤 H A self.signature (κ, (κ′, tt)) (q, (q′, tt)) a vals) (WpFn 𝓤 H C (𝓣 .Λ) code.function (xv ∷ fv ∷ ov ∷ vint w64 n ∷ []) Post)
+  walk : ent 𝓤 (onEntry 𝓤 H A self.signature κs qs a vals) (WpFn 𝓤 H C (𝓣 .Λ) code.function (xv ∷ fv ∷ ov ∷ vint w64 n ∷ []) Post)
   walk =
       qed W ((‵ (flft κ q) ⊛ ‵ (flft κ′ q′) ⊛ ‵ ftrue) ∷ ‵ (owns (MutSlice (named 0) κ X.the-row ∷ ShrSlice (named 1) κ′ u8 ∷ O.the-row ∷ usize ∷ []) a vals) ∷ []) ∵
       split ! $ move ! (2 ∷ []) $ fsplit ! $ move ! (1 ∷ []) $ fsplit ! $ move ! (1 ∷ []) $ drop ! $ move ! (3 ∷ 0 ∷ []) $ join ! $
-      starts W ! C (𝓣 .Λ) code.function (xv ∷ fv ∷ ov ∷ vint w64 n ∷ []) Post (
-        (tt, (tt, (record { fits = room .0 }, tt))),
-        (
-          shr-slice-lawful 𝓤 H A W (named 1) κ′ u8 .typed file (fv ∷ []) file-is .0,
-          (EL.lawful O.the-type O′.the-laws 𝓤 H A W tt .typed order _ order-is .0, ((tt, record { fits = n-fits }), tt)),
-        ),
-      ) (λ l.
+      starts W ! C (𝓣 .Λ) code.function (xv ∷ fv ∷ ov ∷ vint w64 n ∷ []) Post (typed κs 𝓤 H A W (knowns params) a are) (λ l.
       -- [the file; the table; its token; _0; …]
       move ! (1 ∷ []) $ fsplit ! $ drop ! $ fsplit ! $ move ! (0 ∷ 1 ∷ 3 ∷ []) $ opens-slice ! tt X.the-row ys b o $
       rewrite ! 0 (λ (zs : List Extent). ‵ (row X.the-row fullShare zs b o)) (first-filled (λ j. cur (suc j)) ys) refl $ move ! (4 ∷ []) $
@@ -284,27 +305,15 @@ module _ {M : Type 1} (𝓤 : URA M) (H : Heap 𝓤) (A : Atoms 𝓤) (W : Given
       assigns ! (of-opd ! (lit ! tt)) (from ! (stop !)) (init ! 17 refl (tt, record { fits = lit< tt })) $
       first ! $ blocks ! $ loops ! 𝓣 Later (nearer-wf n (λ i. Is X.the-row (cur i) (value (cur i) ∷ []))) (At l) (turns l) (0, (zero-le, told .is)))))
 
-walks : {M : Type 1} (𝓤 : URA M) (H : Heap 𝓤) (A : Atoms 𝓤) (W : Given 𝓤 H A) (mem : Memory → SProp 𝓤) (run : Routine → Fun 𝓤) (𝓣 : Tables 𝓤 H)
-    → Triple 𝓤 (𝓣 .C start-def.name) (tripleOf 𝓤 H A start.signature (start.spec 𝓤 H A mem run))
-    → Triple 𝓤 (𝓣 .C step-def.name) (tripleOf 𝓤 H A step.signature (step.spec 𝓤 H A mem run))
-    → Walks 𝓤 H A self.ended stayed (WpFn 𝓤 H (𝓣 .C) (𝓣 .Λ) code.function) (self.clauses 𝓤 H A mem run)
-walks 𝓤 H A W mem run 𝓣 known-start known-step =
-    walked 𝓤 H A self.ended stayed (self.clauses 𝓤 H A mem run) (WpFn 𝓤 H (𝓣 .C) (𝓣 .Λ) code.function)
-    (λ κs. (slice-vals, (slice-vals, (EL.vals O.the-type O′.the-laws, (uint-vals w64, tt)))))
-    (λ κs. (mut-slice-tells (named 0) (κs .0) X.the-row, (shr-slice-tells (named 1) (κs .1 .0) u8, (EL.tells O.the-type O′.the-laws, (uint-tells w64, tt)))))
-    (λ κs qs bounds a g are. needs 𝓤 _ _ (λ pre.
-    walk 𝓤 H A W mem run 𝓣 known-start known-step (κs .0) (κs .1 .0) (qs .0) (qs .1 .0) (a .0 .ptr .0) (a .0 .ptr .1) (a .0 .name) (a .0 .now) (a .1 .0) (a .1 .1 .0)
-    (a .1 .1 .1 .0) (are .0 .0 .1) (are .1 .0) (are .1 .1 .0) (are .1 .1 .1 .0 .1) (pre .0) (pre .1)))
-
 pub fill-spec : {M : Type 1} → statement M
 unfolding code.routine tablesOf
 fill-spec 𝓤 H 𝓜 𝓖 𝓡 =
     let A = 𝓖 .A in
     let mem = 𝓜 .mem in
     let run = 𝓡 .run in
-    proved 𝓤 H 𝓜 𝓖 𝓡 code.env self.ended stayed (goes 𝓤 H A (givenOf 𝓤 H 𝓜 𝓖)) (self.clauses 𝓤 H A mem run) key.name code.function (code.unfolded 𝓤 H 𝓜 𝓡)
-    (walks 𝓤 H A (givenOf 𝓤 H 𝓜 𝓖) mem run (tablesOf 𝓤 H 𝓜 (tables 𝓤 H 𝓜 𝓡 code.env))
+    proved params (plain (λ _. Nothing)) 𝓤 H 𝓜 𝓖 𝓡 code.env (self.clauses 𝓤 H A mem run) key.name code.function (code.unfolded 𝓤 H 𝓜 𝓡)
+    (λ κs qs a g are. needs 𝓤 _ _ (λ asked. walk 𝓤 H A (givenOf 𝓤 H 𝓜 𝓖) mem run (tablesOf 𝓤 H 𝓜 (tables 𝓤 H 𝓜 𝓡 code.env))
     (cited 𝓤 H (tripleOf 𝓤 H A start.signature (start.spec 𝓤 H A mem run)) 𝓜 𝓡 code.env start-def.name start-def.routine code.calls-extents·directory
     (start-met.met 𝓤 H 𝓜 𝓖 𝓡))
     (cited 𝓤 H (tripleOf 𝓤 H A step.signature (step.spec 𝓤 H A mem run)) 𝓜 𝓡 code.env step-def.name step-def.routine code.calls-extents·run-after
-    (step-met.met 𝓤 H 𝓜 𝓖 𝓡)))
+    (step-met.met 𝓤 H 𝓜 𝓖 𝓡)) κs qs a are asked))

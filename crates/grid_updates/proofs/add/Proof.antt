@@ -23,31 +23,29 @@ use types.Kit.{Given, Item, ‵, raw, _⊛_, given, ⋆, some, later, _$_, _∵_
 use types.Run.{look, store, init, stop, from, of-opd, and-then, no-more, assigns, calls, land, returns}
 use sound.Laws.{ofModel}
 use sound.WpLaws.{FmC, fmOf}
-use denote.RattleType.{RattleType, owns}
-use denote.Laws.{Is, Are, Ises}
-use denote.Plain.{Nothing, nothing-lawful, uint-vals, uint-tells, uint-makes, uint-lawful}
+use denote.RattleType.{owns}
+use denote.Laws.{Is}
+use denote.Plain.{Nothing, nothing-lawful, uint-makes}
 use denote.Builtin.{u8, u32, i32, usize}
-use denote.Exit.{yes}
 use denote.Ref.{RefT, now}
-use denote.Slice.{ShrSlice, MutSlice, slice-vals, mut-slice-tells, mut-slice-lawful, shr-slice-tells, shr-slice-lawful}
-use denote.Signature.{Slot, plain, shrSliceOf}
+use denote.Slice.{ShrSlice, MutSlice, slice-vals}
+use denote.Signature.{plain}
 use denote.Steps.{only, nothing, owned}
 use denote.Enum.Laws as EL
 use denote.Struct.Laws as LL
 use denote.Triple.Statement.{Contract, Triple}
 use denote.Triple.Entry.{Args, Vals, onEntry}
 use denote.Triple.Table.{cited}
-use denote.Triple.Walked.{says, Stays, stay-dropped, stay-slice, walkOf, AllGo, goes-dropped, goes-slice, Walks, ends-at, walked}
+use denote.Triple.Walked.{says, ends-at}
 use Rattle.endian.specs.declared.Order.{Order}
 use Rattle.endian.proofs.Order as O
-use Rattle.endian.proofs.Order.Laws as O′
 use Rattle.extents.specs.Steps.{runsOver, searchedOver}
 use Rattle.extents.specs.declared.Extent.{Extent}
 use Rattle.extents.proofs.Extent as X
 use Rattle.extents.proofs.Extent.Laws as X′
-use Rattle.extent_tables.proofs.Extents.{value, makes, order-value, makes-order, order-slot, size-slot}
-use Rattle.extent_tables.proofs.Locals.{env, holds, cell, starts, frees-all, at}
-use Rattle.extent_tables.proofs.Proved.{proved}
+use Rattle.extent_tables.proofs.Extents.{value, makes, told, order-value, makes-order, an-order, an-extent}
+use Rattle.walks.proofs.Locals.{env, holding, cell, starts, frees-all, at}
+use Rattle.walks.proofs.Proved.{Done, proved}
 use Rattle.extent_tables.proofs.fill.Met as fill-met
 use Rattle.extent_tables.proofs.fill.Symbol as fill-def
 use Rattle.extent_tables.proofs.fill.Symbol.{name as #fill}
@@ -74,11 +72,13 @@ use Rattle.grid_writes.proofs.plan_add as plans
 use Rattle.grid_writes.proofs.plan_add.Met as plans-met
 use Rattle.grid_writes.proofs.plan_add.Symbol as plans-def
 use Rattle.grid_writes.proofs.plan_add.Symbol.{name as #plans}
-use Rattle.grid_updates.proofs.Calls.{Contracted, Yields, onward}
-use Rattle.grid_updates.proofs.FileCalls.{number-slot, lends-file, shares-file}
-use Rattle.grid_updates.proofs.Held.{Holds, counts}
-use Rattle.grid_updates.proofs.Slices.{member, lends-on}
-use Rattle.grid_updates.proofs.TableCalls.{Filling, lends-both, fills}
+use Rattle.walks.proofs.Calls.{Yields, onward}
+use Rattle.walks.proofs.Contracts.{Contracted}
+use Rattle.walks.proofs.Known.{Parameter, shared, record-of, number, by-value, seen, held, knowns, stays, rows, Related, typed}
+use Rattle.walks.proofs.LentCalls.{lends-mut, lends-shr, lends-both}
+use Rattle.walks.proofs.Held.{Holds, counts}
+use Rattle.walks.proofs.Slices.{member, lends-on}
+use Rattle.grid_updates.proofs.Filling.{Filling, fills}
 use Rattle.grid_updates.proofs.add as self
 use Rattle.grid_updates.proofs.add.Code as code
 use Rattle.grid_updates.proofs.add.Key as key
@@ -94,12 +94,9 @@ addition = LL.val D.the-type D′.the-laws
 abbrev answer : AddAnswer → Val
 answer = EL.val S.the-type S′.the-laws
 
--- a plan's relation, and an extent's, at the machine values written out
+-- a plan's relation at its machine value, written out
 plan-is : (p : AddPlan) (w : Val) → Is P.the-row p (w ∷ []) → Is P.the-row p (plan-value p ∷ [])
 plan-is p w is = subst (Is P.the-row p) (LL.tells P.the-type P′.the-laws p (w ∷ []) is) is
-
-extent-is : (e : Extent) (w : Val) → Is X.the-row e (w ∷ []) → Is X.the-row e (value e ∷ [])
-extent-is e w is = subst (Is X.the-row e) (LL.tells X.the-type X′.the-laws e (w ∷ []) is) is
 
 -- the relations of the numbers of a plan that are passed on, and of an addition's parts
 plan-sizes : (p : AddPlan) (w : Val) → Is P.the-row p (w ∷ []) → Is usize (p .count) (vint w64 (p .count) ∷ []) × Is usize (p .need) (vint w64 (p .need) ∷ [])
@@ -111,51 +108,9 @@ parts : (d : Addition) (w : Val) → Is D.the-row d (w ∷ [])
     → Is S.the-row (d .answer) (answer (d .answer) ∷ []) × (Is usize (d .count) (vint w64 (d .count) ∷ []) × Unit {0})
 parts d w is = LL.owed D.the-type D′.the-laws d (addition d ∷ []) (subst (Is D.the-row d) (LL.tells D.the-type D′.the-laws d (w ∷ []) is) is)
 
--- a header and values as parameters of a function with four lifetimes
-abbrev header-slot : Slot 4
-header-slot = shrSliceOf (1 ∷ []) tt (plain (λ _. u8))
-
-abbrev values-slot : Slot 4
-values-slot = shrSliceOf (2 ∷ []) tt (plain (λ _. i32))
-
-abbrev stayed : Stays (self.ended .signature .params) (self.ended .kept)
-stayed = (
-  stay-slice (0 ∷ []) tt (plain (λ _. u8)),
-  (
-    stay-dropped order-slot yes,
-    (
-      stay-dropped header-slot yes,
-      (
-        stay-dropped number-slot yes,
-        (
-          stay-dropped number-slot yes,
-          (
-            stay-dropped values-slot yes,
-            (stay-slice (3 ∷ []) tt (plain (λ _. X.the-row)), tt),
-          ),
-        ),
-      ),
-    ),
-  ),
-)
-
-goes : {M : Type 1} (𝓤 : URA M) (H : Heap 𝓤) (A : Atoms 𝓤) (W : Given 𝓤 H A) → AllGo 𝓤 H A W 4 (self.ended .signature .params) (self.ended .kept) stayed
-goes 𝓤 H A W = (
-  goes-slice 𝓤 H A W 4 0 tt (plain (λ _. u8)),
-  (
-    goes-dropped 𝓤 H A W 4 order-slot yes (λ κs x f. refl),
-    (
-      goes-dropped 𝓤 H A W 4 header-slot yes (λ κs x f. refl),
-      (
-        goes-dropped 𝓤 H A W 4 number-slot yes (λ κs x f. refl),
-        (
-          goes-dropped 𝓤 H A W 4 number-slot yes (λ κs x f. refl),
-          (goes-dropped 𝓤 H A W 4 values-slot yes (λ κs x f. refl), (goes-slice 𝓤 H A W 4 3 tt (plain (λ _. X.the-row)), tt)),
-        ),
-      ),
-    ),
-  ),
-)
+-- the file, the order, the header, the rows and the columns, the values, and the table
+abbrev params : List (Parameter 4)
+params = held 0 tt u8 ∷ by-value an-order ∷ seen 1 tt u8 ∷ by-value (number w32) ∷ by-value (number w32) ∷ seen 2 tt i32 ∷ held 3 tt X.the-row ∷ []
 
 -- the contracts of `plan_add`, `search` and `add_at`
 module _ {M : Type 1} (𝓤 : URA M) (H : Heap 𝓤) (A : Atoms 𝓤) (mem : Memory → SProp 𝓤) (runs : Routine → Fun 𝓤) where
@@ -179,8 +134,8 @@ module _ (κs : Lfts 4) (a : Args self.signature κs) where
   abbrev header : RefT (List ℕ)
   header = a .1 .1 .0
 
-  abbrev rows : ℕ
-  rows = a .1 .1 .1 .0
+  abbrev in-rows : ℕ
+  in-rows = a .1 .1 .1 .0
 
   abbrev columns : ℕ
   columns = a .1 .1 .1 .1 .0
@@ -212,18 +167,11 @@ module _ (κs : Lfts 4) (a : Args self.signature κs) where
   abbrev size : ℕ
   size = length (now table)
 
-  abbrev rows-of : List RattleType
-  rows-of = MutSlice (named 0) (κs .0) u8 ∷ O.the-row ∷ ShrSlice (named 1) (κs .1 .0) u8 ∷ u32 ∷ u32 ∷ ShrSlice (named 2) (κs .1 .1 .0) i32 ∷ MutSlice (named 3)
-      (κs .1 .1 .1 .0) X.the-row ∷ []
-
   abbrev passed : List Val
-  passed = fv ∷ order-value order ∷ hv ∷ vint w32 rows ∷ vint w32 columns ∷ vv ∷ tv ∷ []
+  passed = fv ∷ order-value order ∷ hv ∷ vint w32 in-rows ∷ vint w32 columns ∷ vv ∷ tv ∷ []
 
   abbrev vals : Vals self.signature κs
-  vals = (fv ∷ [], (order-value order ∷ [], (hv ∷ [], (vint w32 rows ∷ [], (vint w32 columns ∷ [], (vv ∷ [], (tv ∷ [], tt)))))))
-
-  abbrev Related : Type 0
-  Related = Are rows-of (Ises rows-of) a vals
+  vals = (fv ∷ [], (order-value order ∷ [], (hv ∷ [], (vint w32 in-rows ∷ [], (vint w32 columns ∷ [], (vv ∷ [], (tv ∷ [], tt)))))))
 
   -- ---- the calls that the code makes, where Z is what is wanted of the function's answer
   module _ {M : Type 1} (𝓤 : URA M) (H : Heap 𝓤) (C : Calls 𝓤 H) (Z : Val → SProp 𝓤) where
@@ -231,17 +179,17 @@ module _ (κs : Lfts 4) (a : Args self.signature κs) where
     Fills d = C #fill (tv ∷ fv ∷ order-value order ∷ vint w64 (d .count) ∷ []) (Yields 𝓤 H Nothing (λ _. Z (answer (d .answer))))
 
     abbrev Adds : AddPlan → Extent → SProp 𝓤
-    Adds p e = C #adds (fv ∷ order-value order ∷ hv ∷ vint w32 rows ∷ vint w32 columns ∷ vv ∷ vint w64 size ∷ plan-value p ∷ value e ∷ []) (Yields 𝓤 H D.the-row Fills)
+    Adds p e = C #adds (fv ∷ order-value order ∷ hv ∷ vint w32 in-rows ∷ vint w32 columns ∷ vv ∷ vint w64 size ∷ plan-value p ∷ value e ∷ []) (Yields 𝓤 H D.the-row Fills)
 
     abbrev Searches : AddPlan → SProp 𝓤
     Searches p = C #search (tv ∷ fv ∷ order-value order ∷ vint w64 (p .count) ∷ vint w64 (p .need) ∷ []) (Yields 𝓤 H X.the-row (Adds p))
 
     abbrev Plans : SProp 𝓤
-    Plans = C #plans (fv ∷ order-value order ∷ vint w64 headers ∷ vint w32 rows ∷ vint w32 columns ∷ vint w64 points ∷ vint w64 size ∷ [])
+    Plans = C #plans (fv ∷ order-value order ∷ vint w64 headers ∷ vint w32 in-rows ∷ vint w32 columns ∷ vint w64 points ∷ vint w64 size ∷ [])
         (Yields 𝓤 H P.the-row Searches)
 
   -- ---- of the arguments' relations
-  module _ (are : Related) where
+  module _ (are : Related κs (knowns params) a) where
     file-fits : length (now file) < 2 ^ 64
     file-fits = are .0 .0 .1 .0
 
@@ -258,27 +206,9 @@ module _ (κs : Lfts 4) (a : Args self.signature κs) where
     table-fits = table-is .0 .1 .0
 
   module _ {M : Type 1} (𝓤 : URA M) (H : Heap 𝓤) (A : Atoms 𝓤) (W : Given 𝓤 H A) (C : Calls 𝓤 H) (Λ : Loops 𝓤 H) (fm : FmC 𝓤 H (W .laws) C) where
-    walk : Related → (Z : Val → SProp 𝓤) → ent 𝓤 (H .⇛ (Plans 𝓤 H C Z)) (WpFn 𝓤 H C Λ code.function passed Z)
+    walk : Related κs (knowns params) a → (Z : Val → SProp 𝓤) → ent 𝓤 (H .⇛ (Plans 𝓤 H C Z)) (WpFn 𝓤 H C Λ code.function passed Z)
     walk are Z =
-        qed W (later (raw (Plans 𝓤 H C Z)) ∷ []) ∵ starts W ! C Λ code.function passed Z (
-          mut-slice-lawful 𝓤 H A W (named 0) (κs .0) u8 .typed file _ (are .0) .0,
-          (
-            EL.lawful O.the-type O′.the-laws 𝓤 H A W tt .typed order _ (are .1 .0) .0,
-            (
-              shr-slice-lawful 𝓤 H A W (named 1) (κs .1 .0) u8 .typed header _ (are .1 .1 .0) .0,
-              (
-                uint-lawful 𝓤 H A W w32 .typed rows _ (are .1 .1 .1 .0) .0,
-                (
-                  uint-lawful 𝓤 H A W w32 .typed columns _ (are .1 .1 .1 .1 .0) .0,
-                  (
-                    shr-slice-lawful 𝓤 H A W (named 2) (κs .1 .1 .0) i32 .typed values _ (are .1 .1 .1 .1 .1 .0) .0,
-                    (mut-slice-lawful 𝓤 H A W (named 3) (κs .1 .1 .1 .0) X.the-row .typed table _ (table-is are) .0, tt),
-                  ),
-                ),
-              ),
-            ),
-          ),
-        ) (λ l.
+        qed W (later (raw (Plans 𝓤 H C Z)) ∷ []) ∵ starts W ! C Λ code.function passed Z (typed κs 𝓤 H A W (knowns params) a are) (λ l.
         -- [the call; _0; …; _26; …]: local j stands at 1 + 2 · j
         await ! tt $ lends-on ! 3 23 25 refl refl refl refl refl refl (tt, tt) refl refl refl (tt, (tt, (record { fits = file-fits are }, tt))) $
         assigns ! (of-opd ! (member ! 7 1 refl refl refl)) (from ! (stop !)) (init ! 27 refl (tt, record { fits = header-fits are })) $
@@ -312,12 +242,11 @@ module _ (κs : Lfts 4) (a : Args self.signature κs) where
         await ! tt $ pick ! (λ r. learn ! (λ ir. land ! (from ! (stop !)) (init ! 45 refl (nothing-lawful 𝓤 H A W .typed r _ ir .0)) $
         assigns ! (of-opd ! (member ! 21 0 refl refl refl)) (from ! (stop !))
         (init ! 1 refl (EL.lawful S.the-type S′.the-laws 𝓤 H A W tt .typed (d .answer) _ (parts d y is .0) .0)) $
-        returns ! (look ! 1 refl) $ frees-all W ! (_ ∷ []) (env 𝓤 H (code.function .locals) l)
-        (holds _ ∷ holds _ ∷ holds _ ∷ holds _ ∷ holds _ ∷ holds _ ∷ holds _ ∷ holds _ ∷ holds _ ∷ holds _ ∷ holds _ ∷ holds _ ∷ holds _ ∷ holds _ ∷
-        holds _ ∷ holds _ ∷ holds _ ∷ holds _ ∷ holds _ ∷ holds _ ∷ holds _ ∷ holds _ ∷ holds _ ∷ holds _ ∷ holds _ ∷ holds _ ∷ holds _ ∷ []) (done !))))))))))))))
+        returns ! (look ! 1 refl) $ frees-all W ! (_ ∷ []) _
+        (holding (_ ∷ _ ∷ _ ∷ _ ∷ _ ∷ _ ∷ _ ∷ _ ∷ _ ∷ _ ∷ _ ∷ _ ∷ _ ∷ _ ∷ _ ∷ _ ∷ _ ∷ _ ∷ _ ∷ _ ∷ _ ∷ _ ∷ _ ∷ _ ∷ _ ∷ _ ∷ _ ∷ [])) (done !))))))))))))))
 
   -- ---- what comes of the calls
-  module _ {M : Type 1} (𝓤 : URA M) (H : Heap 𝓤) (A : Atoms 𝓤) (W : Given 𝓤 H A) (mem : Memory → SProp 𝓤) (runs : Routine → Fun 𝓤) (qs : Shares 4) (are : Related)
+  module _ {M : Type 1} (𝓤 : URA M) (H : Heap 𝓤) (A : Atoms 𝓤) (W : Given 𝓤 H A) (mem : Memory → SProp 𝓤) (runs : Routine → Fun 𝓤) (qs : Shares 4) (are : Related κs (knowns params) a)
       (C : Calls 𝓤 H) (fm : FmC 𝓤 H (W .laws) C) where
     abbrev File : List ℕ → Fml
     File = Holds u8 (named 0) (κs .0) (qs .0) file fv
@@ -342,33 +271,30 @@ module _ (κs : Lfts 4) (a : Args self.signature κs) where
     Values = ShrSlice (named 2) (κs .1 .1 .0) i32 .own values (vv ∷ [])
 
     abbrev Post : Val → SProp 𝓤
-    Post = walkOf 𝓤 H A self.ended stayed (self.clauses 𝓤 H A mem runs) .post ((κs, qs, tt, a, vals), tt)
+    Post = Done params (plain (λ _. S.the-row)) 𝓤 H A (self.clauses 𝓤 H A mem runs) κs qs a tt
 
     -- what the callees say: `plan_add` of its plan p, `search` of the extent e that it finds and of the table t that it leaves, and `add_at` of the addition d and of
     -- the file g that it leaves
     abbrev Planned : AddPlan → Type 0
-    Planned p = p ≡ addPlan order (now file) headers rows columns points size
+    Planned p = p ≡ addPlan order (now file) headers in-rows columns points size
 
     abbrev Found : AddPlan → Extent → List Extent → Type 0
     Found p e t = (e, t) ≡ searchedOver order (now file) (p .count) (p .need) (now table)
 
     abbrev Said : Addition → List ℕ → Type 0
-    Said d g = (additionSays d, g) ≡ addStep order (now file) (now header) rows columns (now values) size
+    Said d g = (additionSays d, g) ≡ addStep order (now file) (now header) in-rows columns (now values) size
 
     planned : Triple 𝓤 (C #plans) (Planning 𝓤 H A mem runs) → ent 𝓤 (sem 𝓤 H A (File (now file)))
-        (H .⇛ (C #plans (fv ∷ order-value order ∷ vint w64 headers ∷ vint w32 rows ∷ vint w32 columns ∷ vint w64 points ∷ vint w64 size ∷ [])
+        (H .⇛ (C #plans (fv ∷ order-value order ∷ vint w64 headers ∷ vint w32 in-rows ∷ vint w32 columns ∷ vint w64 points ∷ vint w64 size ∷ [])
         (Yields 𝓤 H P.the-row (λ p. guard 𝓤 (Planned p) (sem 𝓤 H A (File (now file)))))))
-    planned known = shares-file (named 0) (κs .0) (qs .0) file fv 𝓤 H A W C fm (now file)
-        (order-slot ∷ size-slot ∷ number-slot ∷ number-slot ∷ size-slot ∷ size-slot ∷ []) (yes, (yes, (yes, (yes, (yes, (yes, tt)))))) P.the-row
-        (plans.clauses 𝓤 H A mem runs) (λ _. (order, (headers, (rows, (columns, (points, (size, tt))))))) #plans known
-        (λ _. (order-value order ∷ [], (vint w64 headers ∷ [], (vint w32 rows ∷ [], (vint w32 columns ∷ [], (vint w64 points ∷ [], (vint w64 size ∷ [], tt)))))))
-        (order-value order ∷ vint w64 headers ∷ vint w32 rows ∷ vint w32 columns ∷ vint w64 points ∷ vint w64 size ∷ []) (λ _. refl)
-        (λ _. qed W [] ∵ nothing ! $ owned ! usize (Is usize) (uint-makes 𝓤 H A W w64) size _ (refl, table-fits are) $ fjoin ! $
-        owned ! usize (Is usize) (uint-makes 𝓤 H A W w64) points _ (refl, values-fits are) $ fjoin ! $
-        owned ! u32 (Is u32) (uint-makes 𝓤 H A W w32) columns _ (are .1 .1 .1 .1 .0) $ fjoin ! $
-        owned ! u32 (Is u32) (uint-makes 𝓤 H A W w32) rows _ (are .1 .1 .1 .0) $ fjoin ! $
-        owned ! usize (Is usize) (uint-makes 𝓤 H A W w64) headers _ (refl, header-fits are) $ fjoin ! $
-        owned ! O.the-row (Is O.the-row) (makes-order 𝓤 H A) order _ (are .1 .0) $ fjoin ! $ done !)
+    planned known = lends-shr u8 (named 0) (κs .0) (qs .0) file fv 𝓤 H A W C fm (now file)
+        (an-order ∷ number w64 ∷ number w32 ∷ number w32 ∷ number w64 ∷ number w64 ∷ []) P.the-row
+        (plans.clauses 𝓤 H A mem runs) (λ _. (order, (headers, (in-rows, (columns, (points, (size, tt))))))) #plans known
+        (order-value order ∷ vint w64 headers ∷ vint w32 in-rows ∷ vint w32 columns ∷ vint w64 points ∷ vint w64 size ∷ []) (λ _. refl)
+        (λ _. (
+          are .1 .0,
+          ((refl, header-fits are), (are .1 .1 .1 .0, (are .1 .1 .1 .1 .0, ((refl, values-fits are), ((refl, table-fits are), tt))))),
+        ))
         (λ μ ε. tt) (λ μ ε. id⊢ 𝓤 _) Planned (λ μ ε p e. id⊢ 𝓤 _)
 
     found : Triple 𝓤 (C #search) (Searching 𝓤 H A mem runs) → (p : AddPlan)
@@ -376,46 +302,30 @@ module _ (κs : Lfts 4) (a : Args self.signature κs) where
         → ent 𝓤 (⋆ 𝓤 H A (‵ (Table (now table)) ∷ ‵ (File (now file)) ∷ []))
         (H .⇛ (C #search (tv ∷ fv ∷ order-value order ∷ vint w64 (p .count) ∷ vint w64 (p .need) ∷ [])
         (Yields 𝓤 H X.the-row (λ e. ex 𝓤 (λ (t : List Extent). guard 𝓤 (Found p e t) (sep 𝓤 (sem 𝓤 H A (Table t)) (sem 𝓤 H A (File (now file)))))))))
-    found known p sizes eq = lends-both (named 0) (named 3) (κs .0) (κs .1 .1 .1 .0) (qs .0) (qs .1 .1 .1 .0) file table fv tv 𝓤 H A W C fm (now file) (now table)
-        (order-slot ∷ size-slot ∷ size-slot ∷ []) (yes, (yes, (yes, tt))) X.the-row
-        (search.clauses 𝓤 H A mem runs) (λ _. (order, (p .count, (p .need, tt)))) #search known
-        (λ _. (order-value order ∷ [], (vint w64 (p .count) ∷ [], (vint w64 (p .need) ∷ [], tt))))
-        (order-value order ∷ vint w64 (p .count) ∷ vint w64 (p .need) ∷ []) (λ _. refl)
-        (λ _. qed W [] ∵ nothing ! $ owned ! usize (Is usize) (uint-makes 𝓤 H A W w64) (p .need) _ (sizes .1) $ fjoin ! $
-        owned ! usize (Is usize) (uint-makes 𝓤 H A W w64) (p .count) _ (sizes .0) $ fjoin ! $
-        owned ! O.the-row (Is O.the-row) (makes-order 𝓤 H A) order _ (are .1 .0) $ fjoin ! $ done !)
-        (λ ν μ δ ε. tt) (λ ν μ δ ε. factI 𝓤 _ (emp 𝓤) (plan-may-fill order (now file) headers rows columns points (now table) p eq)) (Found p) (λ ν μ δ ε e z. id⊢ 𝓤 _)
+    found known p sizes eq = lends-both X.the-row u8 (named 3) (named 0) (κs .1 .1 .1 .0) (κs .0) (qs .1 .1 .1 .0) (qs .0) table file tv fv 𝓤 H A W C fm (now table) (now file)
+        (an-order ∷ number w64 ∷ number w64 ∷ []) X.the-row (search.clauses 𝓤 H A mem runs) (λ _. (order, (p .count, (p .need, tt)))) #search known
+        (order-value order ∷ vint w64 (p .count) ∷ vint w64 (p .need) ∷ []) (λ _. refl) (λ _. (are .1 .0, (sizes .0, (sizes .1, tt))))
+        (λ ν μ δ ε. tt) (λ ν μ δ ε. factI 𝓤 _ (emp 𝓤) (plan-may-fill order (now file) headers in-rows columns points (now table) p eq)) (Found p) (λ ν μ δ ε e z. id⊢ 𝓤 _)
 
     added : Triple 𝓤 (C #adds) (Adding 𝓤 H A mem runs) → (p : AddPlan) (e : Extent) (t : List Extent) → Is P.the-row p (plan-value p ∷ [])
         → Is X.the-row e (value e ∷ []) → Planned p → Found p e t
         → ent 𝓤 (⋆ 𝓤 H A (‵ (File (now file)) ∷ raw (toks 𝓤 A 2 κs′ qs′) ∷ raw (sep 𝓤 (sem 𝓤 H A Header) (sem 𝓤 H A Values)) ∷ []))
-        (H .⇛ (C #adds (fv ∷ order-value order ∷ hv ∷ vint w32 rows ∷ vint w32 columns ∷ vv ∷ vint w64 size ∷ plan-value p ∷ value e ∷ [])
+        (H .⇛ (C #adds (fv ∷ order-value order ∷ hv ∷ vint w32 in-rows ∷ vint w32 columns ∷ vv ∷ vint w64 size ∷ plan-value p ∷ value e ∷ [])
         (Yields 𝓤 H D.the-row (λ d. ex 𝓤 (λ (g : List ℕ). guard 𝓤 (Said d g) (sep 𝓤 (sem 𝓤 H A (File g)) (toks 𝓤 A 2 κs′ qs′)))))))
     added known p e t ip ie eq-p eq-t =
-        lends-file (named 0) (κs .0) (qs .0) file fv 𝓤 H A W C fm (now file) 2 κs′ qs′
-        (order-slot ∷ shrSliceOf (1 ∷ []) tt (plain (λ _. u8)) ∷ number-slot ∷ number-slot ∷ shrSliceOf (2 ∷ []) tt (plain (λ _. i32)) ∷ size-slot
-        ∷ plain (λ _. P.the-row) ∷ plain (λ _. X.the-row) ∷ [])
-        (yes, (yes, (yes, (yes, (yes, (yes, (yes, (yes, tt)))))))) D.the-row (adds.clauses 𝓤 H A mem runs)
-        (λ _. (order, (header, (rows, (columns, (values, (size, (p, (e, tt))))))))) #adds known
-        (λ _. (
-          order-value order ∷ [],
-          (
-            hv ∷ [],
-            (
-              vint w32 rows ∷ [],
-              (vint w32 columns ∷ [], (vv ∷ [], (vint w64 size ∷ [], (plan-value p ∷ [], (value e ∷ [], tt))))),
-            ),
-          ),
-        ))
-        (order-value order ∷ hv ∷ vint w32 rows ∷ vint w32 columns ∷ vv ∷ vint w64 size ∷ plan-value p ∷ value e ∷ []) (λ _. refl)
+        lends-mut u8 (named 0) (κs .0) (qs .0) file fv 𝓤 H A W C fm (now file) 2 κs′ qs′
+        (an-order .known ∷ shared 1 tt u8 ∷ number w32 .known ∷ number w32 .known ∷ shared 2 tt i32 ∷ number w64 .known ∷ record-of P.the-type P′.the-laws
+        ∷ an-extent .known ∷ []) D.the-row (adds.clauses 𝓤 H A mem runs) (λ _. (order, (header, (in-rows, (columns, (values, (size, (p, (e, tt)))))))))
+        #adds known
+        (order-value order ∷ hv ∷ vint w32 in-rows ∷ vint w32 columns ∷ vv ∷ vint w64 size ∷ plan-value p ∷ value e ∷ []) (λ _. refl)
         (sep 𝓤 (sem 𝓤 H A Header) (sem 𝓤 H A Values))
         (λ _. qed W ((‵ Header ⊛ ‵ Values) ∷ []) ∵ split ! $ nothing ! $ owned ! X.the-row (Is X.the-row) (makes 𝓤 H A) e _ ie $ fjoin ! $
         owned ! P.the-row (Is P.the-row) (LL.makes P.the-type P′.the-plain 𝓤 H A) p _ ip $ fjoin ! $
         owned ! usize (Is usize) (uint-makes 𝓤 H A W w64) size _ (refl, table-fits are) $ fjoin ! $ move ! (2 ∷ 0 ∷ []) $ fjoin ! $
         owned ! u32 (Is u32) (uint-makes 𝓤 H A W w32) columns _ (are .1 .1 .1 .1 .0) $ fjoin ! $
-        owned ! u32 (Is u32) (uint-makes 𝓤 H A W w32) rows _ (are .1 .1 .1 .0) $ fjoin ! $ move ! (1 ∷ 0 ∷ []) $ fjoin ! $
+        owned ! u32 (Is u32) (uint-makes 𝓤 H A W w32) in-rows _ (are .1 .1 .1 .0) $ fjoin ! $ move ! (1 ∷ 0 ∷ []) $ fjoin ! $
         owned ! O.the-row (Is O.the-row) (makes-order 𝓤 H A) order _ (are .1 .0) $ fjoin ! $ done !)
-        (λ ν δ. tt) (λ ν δ. factI 𝓤 _ (emp 𝓤) (plan-ready order (now file) (now header) rows columns (now values) (now table) p e eq-p
+        (λ ν δ. tt) (λ ν δ. factI 𝓤 _ (emp 𝓤) (plan-ready order (now file) (now header) in-rows columns (now values) (now table) p e eq-p
         (ap (λ (z : Extent × List Extent). z .0) eq-t))) Said (λ ν δ d z. id⊢ 𝓤 _)
 
     -- at the end: the answer of d, the file g, and the table t′, which was t after the search
@@ -427,10 +337,10 @@ module _ (κs : Lfts 4) (a : Args self.signature κs) where
         (λ table-length. move ! (2 ∷ []) $
         counts u8 (named 0) (κs .0) (qs .0) file fv ! g (are .0) (λ file-length.
         -- [what the file owns; its token; what the table owns; its token; the other tokens]
-        suffices ! _ (ends-at 𝓤 H A self.ended stayed (self.clauses 𝓤 H A mem runs) W ((κs, qs, tt, a, vals), tt) (answer (d .answer)) (d .answer)
+        suffices ! _ (ends-at 𝓤 H A self.ended (stays params) (self.clauses 𝓤 H A mem runs) W ((κs, qs, tt, a, vals), tt) (answer (d .answer)) (d .answer)
         (g, (tt, (tt, (tt, (tt, (tt, (t′, tt)))))))
         (file-length, (tt, (tt, (tt, (tt, (tt, (table-length, tt)))))))) $
-        says ! (rw (filled-is, eq-t) (add-done order (now file) (now header) rows columns (now values) (now table) p d g eq-p eq)) $
+        says ! (rw (filled-is, eq-t) (add-done order (now file) (now header) in-rows columns (now values) (now table) p d g eq-p eq)) $
         move ! (4 ∷ []) $ split ! $ move ! (1 ∷ []) $ split ! $ move ! (6 ∷ 1 ∷ []) $ join ! $ move ! (1 ∷ 0 ∷ []) $ join ! $ move ! (1 ∷ 0 ∷ []) $ join ! $
         move ! (2 ∷ 0 ∷ []) $ join ! $ frame ! $
         nothing ! $ move ! (2 ∷ 0 ∷ []) $ fjoin ! $ nothing ! $ fjoin ! $ nothing ! $ fjoin ! $ nothing ! $ fjoin ! $ nothing ! $ fjoin ! $ nothing ! $ fjoin ! $
@@ -442,7 +352,7 @@ module _ (κs : Lfts 4) (a : Args self.signature κs) where
         → ent 𝓤 (onEntry 𝓤 H A self.signature κs qs a vals) (H .⇛ (Plans 𝓤 H C Post))
     runs-through known-plans known-search known-adds known-fill =
         qed W ((‵ (flft (κs .0) (qs .0)) ⊛ ‵ (flft (κs .1 .0) (qs .1 .0)) ⊛ ‵ (flft (κs .1 .1 .0) (qs .1 .1 .0)) ⊛ ‵ (flft (κs .1 .1 .1 .0) (qs .1 .1 .1 .0)) ⊛ ‵ ftrue)
-        ∷ ‵ (owns rows-of a vals) ∷ []) ∵ updating ! $
+        ∷ ‵ (owns (rows κs (knowns params)) a vals) ∷ []) ∵ updating ! $
         split ! $ move ! (1 ∷ []) $ split ! $ move ! (1 ∷ []) $ split ! $ move ! (1 ∷ []) $ split ! $
         -- [the table's token; true; the values'; the header's; the file's; what the parameters own]
         move ! (5 ∷ []) $ fsplit ! $ move ! (0 ∷ 6 ∷ []) $ fjoin ! $ move ! (1 ∷ []) $ fsplit ! $ drop ! $ fsplit ! $ move ! (1 ∷ []) $ fsplit ! $ drop ! $ fsplit ! $
@@ -460,14 +370,14 @@ module _ (κs : Lfts 4) (a : Args self.signature κs) where
         pick ! (λ e. learn ! (λ ie. pick ! (λ t. learn ! (λ eq-t. split ! $
         counts X.the-row (named 3) (κs .1 .1 .1 .0) (qs .1 .1 .1 .0) table tv ! t (table-is are) (λ as-long. fjoin ! $ move ! (1 ∷ 2 ∷ 3 ∷ []) $
         -- [the file; the tokens; what the header and the values own; the table]
-        use3 W (later (raw (C #adds _ _))) (added known-adds p e t (plan-is p w ip) (extent-is e x ie) eq-p eq-t) $ await ! tt $ at-once ! $
+        use3 W (later (raw (C #adds _ _))) (added known-adds p e t (plan-is p w ip) (told e x ie) eq-p eq-t) $ await ! tt $ at-once ! $
         show ! (λ (z : Extent). guard 𝓤 (Is X.the-row z (x ∷ [])) (Adds 𝓤 H C Post p z)) e $ check ! ie $ onward ! fm (λ y. updating ! $
         use1 W (later (some (λ (d : Addition). given (Is D.the-row d (y ∷ [])) (some (λ (g : List ℕ). given (Said d g) (‵ (File g) ⊛ Tokens)))))) (id⊢ 𝓤 _) $
         await ! tt $ pick ! (λ d. learn ! (λ is. pick ! (λ g. learn ! (λ eq. split ! $
-        let may-fill = add-may-fill order (now file) (now header) rows columns (now values) (now table) d g eq in
+        let may-fill = add-may-fill order (now file) (now header) in-rows columns (now values) (now table) d g eq in
         -- [the file; the tokens; the table]
         move ! (2 ∷ 0 ∷ []) $ use2 W (later (raw (C #fill _ _)))
-        (fills (named 0) (named 3) (κs .0) (κs .1 .1 .1 .0) (qs .0) (qs .1 .1 .1 .0) file table fv tv 𝓤 H A W C fm g t mem runs order (order-value order) (d .count)
+        (fills (named 3) (named 0) (κs .1 .1 .1 .0) (κs .0) (qs .1 .1 .1 .0) (qs .0) table file tv fv 𝓤 H A W C fm t g mem runs order (d .count)
         known-fill (are .1 .0) (parts d y is .1 .0) (subst (λ (m : ℕ). d .count ≤ m) (sym as-long) (may-fill .0), may-fill .1)) $ await ! tt $ at-once ! $
         show ! (λ (z : Addition). guard 𝓤 (Is D.the-row z (y ∷ [])) (Fills 𝓤 H C Post z)) d $ check ! is $ onward ! fm (λ u. updating ! $
         use1 W (later (some (λ (r : Unit {0}). given (Is Nothing r (u ∷ []))
@@ -476,43 +386,17 @@ module _ (κs : Lfts 4) (a : Args self.signature κs) where
         show ! (λ (z : Unit {0}). guard 𝓤 (Is Nothing z (u ∷ [])) (Post (answer (d .answer)))) r $ check ! ir $
         by ! (exits p d y g t t′ is eq-p (ap (λ (z : Extent × List Extent). z .1) eq-t) eq filled-is)))))))))))))))))))))
 
-module _ {M : Type 1} (𝓤 : URA M) (H : Heap 𝓤) (A : Atoms 𝓤) (W : Given 𝓤 H A) (mem : Memory → SProp 𝓤) (runs : Routine → Fun 𝓤) where
-  walks : (C : Calls 𝓤 H) (Λ : Loops 𝓤 H) → FmC 𝓤 H (W .laws) C
-      → Triple 𝓤 (C #plans) (Planning 𝓤 H A mem runs) → Triple 𝓤 (C #search) (Searching 𝓤 H A mem runs) → Triple 𝓤 (C #adds) (Adding 𝓤 H A mem runs)
-      → Triple 𝓤 (C #fill) (Filling 𝓤 H A mem runs)
-      → Walks 𝓤 H A self.ended stayed (WpFn 𝓤 H C Λ code.function) (self.clauses 𝓤 H A mem runs)
-  walks C Λ fm known-plans known-search known-adds known-fill = walked 𝓤 H A self.ended stayed (self.clauses 𝓤 H A mem runs) (WpFn 𝓤 H C Λ code.function)
-      (λ κs. (slice-vals, (EL.vals O.the-type O′.the-laws, (slice-vals, (uint-vals w32, (uint-vals w32, (slice-vals, (slice-vals, tt))))))))
-      (λ κs. (
-        mut-slice-tells (named 0) (κs .0) u8,
-        (
-          EL.tells O.the-type O′.the-laws,
-          (
-            shr-slice-tells (named 1) (κs .1 .0) u8,
-            (
-              uint-tells w32,
-              (
-                uint-tells w32,
-                (
-                  shr-slice-tells (named 2) (κs .1 .1 .0) i32,
-                  (mut-slice-tells (named 3) (κs .1 .1 .1 .0) X.the-row, tt),
-                ),
-              ),
-            ),
-          ),
-        ),
-      ))
-      (λ κs qs bounds a g are. via 𝓤 _ (fst∗ 𝓤 _ (emp 𝓤)) (via 𝓤 _ (runs-through κs a 𝓤 H A W mem runs qs are C fm known-plans known-search known-adds known-fill)
-      (walk κs a 𝓤 H A W C Λ fm are _)))
-
 pub add-spec : {M : Type 1} → statement M
 unfolding code.routine tablesOf
 add-spec 𝓤 H 𝓜 𝓖 𝓡 =
     let A = 𝓖 .A in
     let W = givenOf 𝓤 H 𝓜 𝓖 in
-    proved 𝓤 H 𝓜 𝓖 𝓡 code.env self.ended stayed (goes 𝓤 H A W) (self.clauses 𝓤 H A (𝓜 .mem) (𝓡 .run)) key.name code.function (code.unfolded 𝓤 H 𝓜 𝓡)
-    (walks 𝓤 H A W (𝓜 .mem) (𝓡 .run) (tables 𝓤 H 𝓜 𝓡 code.env .C) (tables 𝓤 H 𝓜 𝓡 code.env .Λ) (fmOf 𝓤 H (ofModel 𝓤 H 𝓜) (tablesOf 𝓤 H 𝓜 (tables 𝓤 H 𝓜 𝓡 code.env)))
+    let C = tables 𝓤 H 𝓜 𝓡 code.env .C in
+    let fm = fmOf 𝓤 H (ofModel 𝓤 H 𝓜) (tablesOf 𝓤 H 𝓜 (tables 𝓤 H 𝓜 𝓡 code.env)) in
+    proved params (plain (λ _. S.the-row)) 𝓤 H 𝓜 𝓖 𝓡 code.env (self.clauses 𝓤 H A (𝓜 .mem) (𝓡 .run)) key.name code.function (code.unfolded 𝓤 H 𝓜 𝓡)
+    (λ κs qs a g are. via 𝓤 _ (fst∗ 𝓤 _ (emp 𝓤)) (via 𝓤 _ (runs-through κs a 𝓤 H A W (𝓜 .mem) (𝓡 .run) qs are C fm
     (cited 𝓤 H (Planning 𝓤 H A (𝓜 .mem) (𝓡 .run)) 𝓜 𝓡 code.env #plans plans-def.routine code.calls-grid-writes·plan-add (plans-met.met 𝓤 H 𝓜 𝓖 𝓡))
     (cited 𝓤 H (Searching 𝓤 H A (𝓜 .mem) (𝓡 .run)) 𝓜 𝓡 code.env #search search-def.routine code.calls-extent-tables·search (search-met.met 𝓤 H 𝓜 𝓖 𝓡))
     (cited 𝓤 H (Adding 𝓤 H A (𝓜 .mem) (𝓡 .run)) 𝓜 𝓡 code.env #adds adds-def.routine code.calls-grid-writes·add-at (adds-met.met 𝓤 H 𝓜 𝓖 𝓡))
     (cited 𝓤 H (Filling 𝓤 H A (𝓜 .mem) (𝓡 .run)) 𝓜 𝓡 code.env #fill fill-def.routine code.calls-extent-tables·fill (fill-met.met 𝓤 H 𝓜 𝓖 𝓡)))
+    (walk κs a 𝓤 H A W C (tables 𝓤 H 𝓜 𝓡 code.env .Λ) fm are _)))

@@ -22,12 +22,11 @@ use types.Run.{look, init, stop, from, of-opd, and-then, no-more, assigns, calls
 use sound.Laws.{ofModel}
 use sound.WpLaws.{FmC, fmOf}
 use denote.RattleType.{owns}
-use denote.Laws.{Is, Are, Ises}
-use denote.Plain.{Nothing, nothing-lawful, uint-vals, uint-tells, uint-makes, uint-lawful}
-use denote.Builtin.{u8, u32, usize}
-use denote.Exit.{yes}
+use denote.Laws.{Is}
+use denote.Plain.{Nothing, nothing-lawful}
+use denote.Builtin.{u8, usize}
 use denote.Ref.{RefT, now}
-use denote.Slice.{MutSlice, slice-vals, mut-slice-tells, mut-slice-lawful}
+use denote.Slice.{slice-vals}
 use denote.Signature.{plain}
 use denote.Steps.{only, nothing, owned}
 use denote.Enum.Laws as EL
@@ -35,19 +34,17 @@ use denote.Struct.Laws as LL
 use denote.Triple.Statement.{Contract, Triple}
 use denote.Triple.Entry.{Args, Vals, onEntry}
 use denote.Triple.Table.{cited}
-use denote.Triple.Walked.{says, Stays, stay-dropped, stay-slice, walkOf, AllGo, goes-dropped, goes-slice, Walks, ends-at, walked}
+use denote.Triple.Walked.{says, ends-at}
 use Rattle.endian.specs.declared.Order.{Order}
-use Rattle.endian.proofs.Order as O
-use Rattle.endian.proofs.Order.Laws as O′
 use Rattle.refusal.specs.declared.SizeAnswer.{SizeAnswer}
 use Rattle.refusal.proofs.SizeAnswer as S
 use Rattle.refusal.proofs.SizeAnswer.Laws as S′
 use Rattle.extents.specs.Steps.{runsOver}
 use Rattle.extents.specs.declared.Extent.{Extent}
 use Rattle.extents.proofs.Extent as X
-use Rattle.extent_tables.proofs.Extents.{order-value, makes-order, order-slot, size-slot}
-use Rattle.extent_tables.proofs.Locals.{env, holds, cell, starts, frees-all, at}
-use Rattle.extent_tables.proofs.Proved.{proved}
+use Rattle.extent_tables.proofs.Extents.{order-value, an-order}
+use Rattle.walks.proofs.Locals.{env, holding, cell, starts, frees-all, at}
+use Rattle.walks.proofs.Proved.{Done, proved}
 use Rattle.extent_tables.proofs.fill.Met as fill-met
 use Rattle.extent_tables.proofs.fill.Symbol as fill-def
 use Rattle.extent_tables.proofs.fill.Symbol.{name as #fill}
@@ -60,11 +57,13 @@ use Rattle.grid_writes.proofs.delete_in as deletes
 use Rattle.grid_writes.proofs.delete_in.Met as deletes-met
 use Rattle.grid_writes.proofs.delete_in.Symbol as deletes-def
 use Rattle.grid_writes.proofs.delete_in.Symbol.{name as #deletes}
-use Rattle.grid_updates.proofs.Calls.{Contracted, Yields, onward}
-use Rattle.grid_updates.proofs.FileCalls.{number-slot, lends-file}
-use Rattle.grid_updates.proofs.Held.{Holds, counts}
-use Rattle.grid_updates.proofs.Slices.{member, lends-on}
-use Rattle.grid_updates.proofs.TableCalls.{Filling, fills}
+use Rattle.walks.proofs.Calls.{Yields, onward}
+use Rattle.walks.proofs.Contracts.{Contracted}
+use Rattle.walks.proofs.Known.{Parameter, number, types-of, owned-values, by-value, held, knowns, stays, rows, Related, typed}
+use Rattle.walks.proofs.LentCalls.{lends-mut}
+use Rattle.walks.proofs.Held.{Holds, counts}
+use Rattle.walks.proofs.Slices.{member, lends-on}
+use Rattle.grid_updates.proofs.Filling.{Filling, fills}
 use Rattle.grid_updates.proofs.delete as self
 use Rattle.grid_updates.proofs.delete.Code as code
 use Rattle.grid_updates.proofs.delete.Key as key
@@ -82,23 +81,9 @@ parts : (d : Deletion) (w : Val) → Is D.the-row d (w ∷ [])
     → Is S.the-row (d .answer) (answer (d .answer) ∷ []) × (Is usize (d .count) (vint w64 (d .count) ∷ []) × Unit {0})
 parts d w is = LL.owed D.the-type D′.the-laws d (deletion d ∷ []) (subst (Is D.the-row d) (LL.tells D.the-type D′.the-laws d (w ∷ []) is) is)
 
-abbrev stayed : Stays (self.ended .signature .params) (self.ended .kept)
-stayed = (
-  stay-slice (0 ∷ []) tt (plain (λ _. u8)),
-  (
-    stay-dropped order-slot yes,
-    (stay-dropped number-slot yes, (stay-slice (1 ∷ []) tt (plain (λ _. X.the-row)), tt)),
-  ),
-)
-
-goes : {M : Type 1} (𝓤 : URA M) (H : Heap 𝓤) (A : Atoms 𝓤) (W : Given 𝓤 H A) → AllGo 𝓤 H A W 2 (self.ended .signature .params) (self.ended .kept) stayed
-goes 𝓤 H A W = (
-  goes-slice 𝓤 H A W 2 0 tt (plain (λ _. u8)),
-  (
-    goes-dropped 𝓤 H A W 2 order-slot yes (λ κs x f. refl),
-    (goes-dropped 𝓤 H A W 2 number-slot yes (λ κs x f. refl), (goes-slice 𝓤 H A W 2 1 tt (plain (λ _. X.the-row)), tt)),
-  ),
-)
+-- the file, the order, the number of the grid, and the table
+abbrev params : List (Parameter 2)
+params = held 0 tt u8 ∷ by-value an-order ∷ by-value (number w32) ∷ held 1 tt X.the-row ∷ []
 
 -- the contract of `delete_in`
 abbrev Deleting : {M : Type 1} (𝓤 : URA M) (H : Heap 𝓤) (A : Atoms 𝓤) → (Memory → SProp 𝓤) → (Routine → Fun 𝓤) → Contract 𝓤
@@ -112,8 +97,8 @@ module _ (κs : Lfts 2) (a : Args self.signature κs) where
   abbrev order : Order
   order = a .1 .0
 
-  abbrev number : ℕ
-  number = a .1 .1 .0
+  abbrev grid : ℕ
+  grid = a .1 .1 .0
 
   abbrev table : RefT (List Extent)
   table = a .1 .1 .1 .0
@@ -128,11 +113,7 @@ module _ (κs : Lfts 2) (a : Args self.signature κs) where
   size = length (now table)
 
   abbrev vals : Vals self.signature κs
-  vals = (fv ∷ [], (order-value order ∷ [], (vint w32 number ∷ [], (tv ∷ [], tt))))
-
-  abbrev Related : Type 0
-  Related = Are (MutSlice (named 0) (κs .0) u8 ∷ O.the-row ∷ u32 ∷ MutSlice (named 1) (κs .1 .0) X.the-row ∷ [])
-      (Ises (MutSlice (named 0) (κs .0) u8 ∷ O.the-row ∷ u32 ∷ MutSlice (named 1) (κs .1 .0) X.the-row ∷ [])) a vals
+  vals = (fv ∷ [], (order-value order ∷ [], (vint w32 grid ∷ [], (tv ∷ [], tt))))
 
   -- ---- the calls that the code makes, where Z is what is wanted of the function's answer
   module _ {M : Type 1} (𝓤 : URA M) (H : Heap 𝓤) (C : Calls 𝓤 H) (Z : Val → SProp 𝓤) where
@@ -140,21 +121,13 @@ module _ (κs : Lfts 2) (a : Args self.signature κs) where
     Fills d = C #fill (tv ∷ fv ∷ order-value order ∷ vint w64 (d .count) ∷ []) (Yields 𝓤 H Nothing (λ _. Z (answer (d .answer))))
 
     abbrev Deletes : SProp 𝓤
-    Deletes = C #deletes (fv ∷ order-value order ∷ vint w32 number ∷ vint w64 size ∷ []) (Yields 𝓤 H D.the-row Fills)
+    Deletes = C #deletes (fv ∷ order-value order ∷ vint w32 grid ∷ vint w64 size ∷ []) (Yields 𝓤 H D.the-row Fills)
 
   module _ {M : Type 1} (𝓤 : URA M) (H : Heap 𝓤) (A : Atoms 𝓤) (W : Given 𝓤 H A) (C : Calls 𝓤 H) (Λ : Loops 𝓤 H) (fm : FmC 𝓤 H (W .laws) C) where
-    walk : Related → (Z : Val → SProp 𝓤) → ent 𝓤 (H .⇛ (Deletes 𝓤 H C Z)) (WpFn 𝓤 H C Λ code.function (fv ∷ order-value order ∷ vint w32 number ∷ tv ∷ []) Z)
+    walk : Related κs (knowns params) a → (Z : Val → SProp 𝓤) → ent 𝓤 (H .⇛ (Deletes 𝓤 H C Z)) (WpFn 𝓤 H C Λ code.function (fv ∷ order-value order ∷ vint w32 grid ∷ tv ∷ []) Z)
     walk are Z =
-        qed W (later (raw (Deletes 𝓤 H C Z)) ∷ []) ∵ starts W ! C Λ code.function (fv ∷ order-value order ∷ vint w32 number ∷ tv ∷ []) Z (
-          mut-slice-lawful 𝓤 H A W (named 0) (κs .0) u8 .typed file _ (are .0) .0,
-          (
-            EL.lawful O.the-type O′.the-laws 𝓤 H A W tt .typed order _ (are .1 .0) .0,
-            (
-              uint-lawful 𝓤 H A W w32 .typed number _ (are .1 .1 .0) .0,
-              (mut-slice-lawful 𝓤 H A W (named 1) (κs .1 .0) X.the-row .typed table _ (are .1 .1 .1 .0) .0, tt),
-            ),
-          ),
-        ) (λ l.
+        qed W (later (raw (Deletes 𝓤 H C Z)) ∷ []) ∵ starts W ! C Λ code.function (fv ∷ order-value order ∷ vint w32 grid ∷ tv ∷ []) Z
+        (typed κs 𝓤 H A W (knowns params) a are) (λ l.
         -- [the call; _0; …; _13; …]: local j stands at 1 + 2 · j
         await ! tt $ lends-on ! 3 13 15 refl refl refl refl refl refl (tt, tt) refl refl refl (tt, (tt, (record { fits = are .0 .0 .1 .0 }, tt))) $
         assigns ! (of-opd ! (member ! 9 1 refl refl refl)) (from ! (stop !)) (init ! 17 refl (tt, record { fits = are .1 .1 .1 .0 .0 .1 .0 })) $
@@ -169,11 +142,10 @@ module _ (κs : Lfts 2) (a : Args self.signature κs) where
         await ! tt $ pick ! (λ r. learn ! (λ ir. land ! (from ! (stop !)) (init ! 19 refl (nothing-lawful 𝓤 H A W .typed r _ ir .0)) $
         assigns ! (of-opd ! (member ! 11 0 refl refl refl)) (from ! (stop !))
         (init ! 1 refl (EL.lawful S.the-type S′.the-laws 𝓤 H A W tt .typed (d .answer) _ (parts d w is .0) .0)) $
-        returns ! (look ! 1 refl) $ frees-all W ! (_ ∷ []) (env 𝓤 H (code.function .locals) l)
-        (holds _ ∷ holds _ ∷ holds _ ∷ holds _ ∷ holds _ ∷ holds _ ∷ holds _ ∷ holds _ ∷ holds _ ∷ holds _ ∷ holds _ ∷ holds _ ∷ holds _ ∷ holds _ ∷ []) (done !))))))))
+        returns ! (look ! 1 refl) $ frees-all W ! (_ ∷ []) _ (holding (_ ∷ _ ∷ _ ∷ _ ∷ _ ∷ _ ∷ _ ∷ _ ∷ _ ∷ _ ∷ _ ∷ _ ∷ _ ∷ _ ∷ [])) (done !))))))))
 
   -- ---- what comes of the calls
-  module _ {M : Type 1} (𝓤 : URA M) (H : Heap 𝓤) (A : Atoms 𝓤) (W : Given 𝓤 H A) (mem : Memory → SProp 𝓤) (runs : Routine → Fun 𝓤) (qs : Shares 2) (are : Related)
+  module _ {M : Type 1} (𝓤 : URA M) (H : Heap 𝓤) (A : Atoms 𝓤) (W : Given 𝓤 H A) (mem : Memory → SProp 𝓤) (runs : Routine → Fun 𝓤) (qs : Shares 2) (are : Related κs (knowns params) a)
       (C : Calls 𝓤 H) (fm : FmC 𝓤 H (W .laws) C) where
     abbrev File : List ℕ → Fml
     File = Holds u8 (named 0) (κs .0) (qs .0) file fv
@@ -182,22 +154,20 @@ module _ (κs : Lfts 2) (a : Args self.signature κs) where
     Table = Holds X.the-row (named 1) (κs .1 .0) (qs .1 .0) table tv
 
     abbrev Post : Val → SProp 𝓤
-    Post = walkOf 𝓤 H A self.ended stayed (self.clauses 𝓤 H A mem runs) .post ((κs, qs, tt, a, vals), tt)
+    Post = Done params (plain (λ _. S.the-row)) 𝓤 H A (self.clauses 𝓤 H A mem runs) κs qs a tt
 
     -- what `delete_in` says of its result d and of the file g that it leaves
     abbrev Said : Deletion → List ℕ → Type 0
-    Said d g = (deletionSays d, g) ≡ deleteStep order (now file) number size
+    Said d g = (deletionSays d, g) ≡ deleteStep order (now file) grid size
 
     deleted : Triple 𝓤 (C #deletes) (Deleting 𝓤 H A mem runs) → ent 𝓤 (⋆ 𝓤 H A (‵ (File (now file)) ∷ ‵ ftrue ∷ ‵ ftrue ∷ []))
-        (H .⇛ (C #deletes (fv ∷ order-value order ∷ vint w32 number ∷ vint w64 size ∷ [])
+        (H .⇛ (C #deletes (fv ∷ order-value order ∷ vint w32 grid ∷ vint w64 size ∷ [])
         (Yields 𝓤 H D.the-row (λ d. ex 𝓤 (λ (g : List ℕ). guard 𝓤 (Said d g) (sep 𝓤 (sem 𝓤 H A (File g)) (emp 𝓤)))))))
-    deleted known = lends-file (named 0) (κs .0) (qs .0) file fv 𝓤 H A W C fm (now file) 0 tt tt (order-slot ∷ number-slot ∷ size-slot ∷ [])
-        (yes, (yes, (yes, tt))) D.the-row (deletes.clauses 𝓤 H A mem runs)
-        (λ _. (order, (number, (size, tt)))) #deletes known (λ _. (order-value order ∷ [], (vint w32 number ∷ [], (vint w64 size ∷ [], tt))))
-        (order-value order ∷ vint w32 number ∷ vint w64 size ∷ []) (λ _. refl)
-        (emp 𝓤) (λ _. qed W [] ∵ nothing ! $ owned ! usize (Is usize) (uint-makes 𝓤 H A W w64) size _ (refl, are .1 .1 .1 .0 .0 .1 .0) $ fjoin ! $
-        owned ! u32 (Is u32) (uint-makes 𝓤 H A W w32) number _ (are .1 .1 .0) $ fjoin ! $
-        owned ! O.the-row (Is O.the-row) (makes-order 𝓤 H A) order _ (are .1 .0) $ fjoin ! $ done !) (λ ν δ. tt) (λ ν δ. id⊢ 𝓤 _) Said (λ ν δ d e. id⊢ 𝓤 _)
+    deleted known = lends-mut u8 (named 0) (κs .0) (qs .0) file fv 𝓤 H A W C fm (now file) 0 tt tt
+        (types-of (an-order ∷ number w32 ∷ number w64 ∷ [])) D.the-row (deletes.clauses 𝓤 H A mem runs) (λ _. (order, (grid, (size, tt)))) #deletes known
+        (order-value order ∷ vint w32 grid ∷ vint w64 size ∷ []) (λ _. refl) (emp 𝓤)
+        (λ ν. owned-values {n = 1} 𝓤 H A W (ν ∷ [], tt) (an-order ∷ number w32 ∷ number w64 ∷ []) (order, (grid, (size, tt)))
+        (are .1 .0, (are .1 .1 .0, ((refl, are .1 .1 .1 .0 .0 .1 .0), tt)))) (λ ν δ. tt) (λ ν δ. id⊢ 𝓤 _) Said (λ ν δ d e. id⊢ 𝓤 _)
 
     -- at the end: the answer of d, the file g, and the table t
     exits : (d : Deletion) (w : Val) (g : List ℕ) (t : List Extent) → Is D.the-row d (w ∷ []) → Said d g → t ≡ runsOver order g (d .count) (now table)
@@ -206,9 +176,9 @@ module _ (κs : Lfts 2) (a : Args self.signature κs) where
         qed W (‵ (Table t) ∷ ‵ (File g) ∷ []) ∵ counts X.the-row (named 1) (κs .1 .0) (qs .1 .0) table tv ! t (are .1 .1 .1 .0)
         (λ table-length. move ! (2 ∷ []) $ counts u8 (named 0) (κs .0) (qs .0) file fv ! g (are .0) (λ file-length.
         -- [what the file owns; its token; what the table owns; its token]
-        suffices ! _ (ends-at 𝓤 H A self.ended stayed (self.clauses 𝓤 H A mem runs) W ((κs, qs, tt, a, vals), tt) (answer (d .answer)) (d .answer)
+        suffices ! _ (ends-at 𝓤 H A self.ended (stays params) (self.clauses 𝓤 H A mem runs) W ((κs, qs, tt, a, vals), tt) (answer (d .answer)) (d .answer)
         (g, (tt, (tt, (t, tt)))) (file-length, (tt, (tt, (table-length, tt))))) $
-        says ! (rw filled-is (delete-done order (now file) number (now table) d g eq)) $
+        says ! (rw filled-is (delete-done order (now file) grid (now table) d g eq)) $
         nothing ! $ move ! (4 ∷ 0 ∷ []) $ join ! $ move ! (2 ∷ 0 ∷ []) $ join ! $ frame ! $ nothing ! $ move ! (2 ∷ 0 ∷ []) $ fjoin ! $ nothing ! $ fjoin ! $
         nothing ! $ fjoin ! $ move ! (1 ∷ 0 ∷ []) $ fjoin ! $ frame ! $
         owned ! S.the-row (Is S.the-row) (EL.makes S.the-type S′.the-plain 𝓤 H A) (d .answer) _ (parts d w is .0) $ done !))
@@ -217,7 +187,7 @@ module _ (κs : Lfts 2) (a : Args self.signature κs) where
         → ent 𝓤 (onEntry 𝓤 H A self.signature κs qs a vals) (H .⇛ (Deletes 𝓤 H C Post))
     runs-through known-deletes known-fill =
         qed W ((‵ (flft (κs .0) (qs .0)) ⊛ ‵ (flft (κs .1 .0) (qs .1 .0)) ⊛ ‵ ftrue) ∷ ‵
-        (owns (MutSlice (named 0) (κs .0) u8 ∷ O.the-row ∷ u32 ∷ MutSlice (named 1) (κs .1 .0) X.the-row ∷ []) a vals) ∷ []) ∵ updating ! $
+        (owns (rows κs (knowns params)) a vals) ∷ []) ∵ updating ! $
         split ! $ move ! (1 ∷ []) $ split ! $ move ! (3 ∷ []) $ fsplit ! $ move ! (0 ∷ 4 ∷ []) $ fjoin ! $ move ! (1 ∷ []) $ fsplit ! $ drop ! $ fsplit ! $ drop ! $
         fsplit ! $ move ! (0 ∷ 3 ∷ []) $ fjoin ! $ move ! (2 ∷ 1 ∷ 3 ∷ 0 ∷ []) $
         -- [the file; true; true; the table]
@@ -225,30 +195,23 @@ module _ (κs : Lfts 2) (a : Args self.signature κs) where
         use1 W (later (some (λ (d : Deletion). given (Is D.the-row d (w ∷ [])) (some (λ (g : List ℕ). given (Said d g) (‵ (File g) ⊛ ‵ ftrue)))))) (id⊢ 𝓤 _) $
         await ! tt $ pick ! (λ d. learn ! (λ is. pick ! (λ g. learn ! (λ eq. split ! $ keep ! (2 ∷ 0 ∷ []) $
         -- [the table; the file]
-        use2 W (later (raw (C #fill _ _))) (fills (named 0) (named 1) (κs .0) (κs .1 .0) (qs .0) (qs .1 .0) file table fv tv 𝓤 H A W C fm g (now table) mem runs order
-        (order-value order) (d .count)
-        known-fill (are .1 .0) (parts d w is .1 .0) (delete-may-fill order (now file) number (now table) d g eq)) $ await ! tt $ at-once ! $
+        use2 W (later (raw (C #fill _ _))) (fills (named 1) (named 0) (κs .1 .0) (κs .0) (qs .1 .0) (qs .0) table file tv fv 𝓤 H A W C fm (now table) g mem runs order
+        (d .count) known-fill (are .1 .0) (parts d w is .1 .0) (delete-may-fill order (now file) grid (now table) d g eq)) $ await ! tt $ at-once ! $
         show ! (λ (z : Deletion). guard 𝓤 (Is D.the-row z (w ∷ [])) (Fills 𝓤 H C Post z)) d $ check ! is $ onward ! fm (λ u. updating ! $
         use1 W (later (some (λ (r : Unit {0}). given (Is Nothing r (u ∷ []))
         (some (λ (t : List Extent). given (t ≡ runsOver order g (d .count) (now table)) (‵ (Table t) ⊛ ‵ (File g))))))) (id⊢ 𝓤 _) $
         await ! tt $ pick ! (λ r. learn ! (λ ir. pick ! (λ t. learn ! (λ filled-is. at-once ! $
         show ! (λ (z : Unit {0}). guard 𝓤 (Is Nothing z (u ∷ [])) (Post (answer (d .answer)))) r $ check ! ir $ by ! (exits d w g t is eq filled-is)))))))))))
 
-module _ {M : Type 1} (𝓤 : URA M) (H : Heap 𝓤) (A : Atoms 𝓤) (W : Given 𝓤 H A) (mem : Memory → SProp 𝓤) (runs : Routine → Fun 𝓤) where
-  walks : (C : Calls 𝓤 H) (Λ : Loops 𝓤 H) → FmC 𝓤 H (W .laws) C → Triple 𝓤 (C #deletes) (Deleting 𝓤 H A mem runs) → Triple 𝓤 (C #fill) (Filling 𝓤 H A mem runs)
-      → Walks 𝓤 H A self.ended stayed (WpFn 𝓤 H C Λ code.function) (self.clauses 𝓤 H A mem runs)
-  walks C Λ fm known-deletes known-fill = walked 𝓤 H A self.ended stayed (self.clauses 𝓤 H A mem runs) (WpFn 𝓤 H C Λ code.function)
-      (λ κs. (slice-vals, (EL.vals O.the-type O′.the-laws, (uint-vals w32, (slice-vals, tt)))))
-      (λ κs. (mut-slice-tells (named 0) (κs .0) u8, (EL.tells O.the-type O′.the-laws, (uint-tells w32, (mut-slice-tells (named 1) (κs .1 .0) X.the-row, tt)))))
-      (λ κs qs bounds a g are. via 𝓤 _ (fst∗ 𝓤 _ (emp 𝓤)) (via 𝓤 _ (runs-through κs a 𝓤 H A W mem runs qs are C fm known-deletes known-fill)
-      (walk κs a 𝓤 H A W C Λ fm are _)))
-
 pub delete-spec : {M : Type 1} → statement M
 unfolding code.routine tablesOf
 delete-spec 𝓤 H 𝓜 𝓖 𝓡 =
     let A = 𝓖 .A in
     let W = givenOf 𝓤 H 𝓜 𝓖 in
-    proved 𝓤 H 𝓜 𝓖 𝓡 code.env self.ended stayed (goes 𝓤 H A W) (self.clauses 𝓤 H A (𝓜 .mem) (𝓡 .run)) key.name code.function (code.unfolded 𝓤 H 𝓜 𝓡)
-    (walks 𝓤 H A W (𝓜 .mem) (𝓡 .run) (tables 𝓤 H 𝓜 𝓡 code.env .C) (tables 𝓤 H 𝓜 𝓡 code.env .Λ) (fmOf 𝓤 H (ofModel 𝓤 H 𝓜) (tablesOf 𝓤 H 𝓜 (tables 𝓤 H 𝓜 𝓡 code.env)))
+    let C = tables 𝓤 H 𝓜 𝓡 code.env .C in
+    let fm = fmOf 𝓤 H (ofModel 𝓤 H 𝓜) (tablesOf 𝓤 H 𝓜 (tables 𝓤 H 𝓜 𝓡 code.env)) in
+    proved params (plain (λ _. S.the-row)) 𝓤 H 𝓜 𝓖 𝓡 code.env (self.clauses 𝓤 H A (𝓜 .mem) (𝓡 .run)) key.name code.function (code.unfolded 𝓤 H 𝓜 𝓡)
+    (λ κs qs a g are. via 𝓤 _ (fst∗ 𝓤 _ (emp 𝓤)) (via 𝓤 _ (runs-through κs a 𝓤 H A W (𝓜 .mem) (𝓡 .run) qs are C fm
     (cited 𝓤 H (Deleting 𝓤 H A (𝓜 .mem) (𝓡 .run)) 𝓜 𝓡 code.env #deletes deletes-def.routine code.calls-grid-writes·delete-in (deletes-met.met 𝓤 H 𝓜 𝓖 𝓡))
     (cited 𝓤 H (Filling 𝓤 H A (𝓜 .mem) (𝓡 .run)) 𝓜 𝓡 code.env #fill fill-def.routine code.calls-extent-tables·fill (fill-met.met 𝓤 H 𝓜 𝓖 𝓡)))
+    (walk κs a 𝓤 H A W C (tables 𝓤 H 𝓜 𝓡 code.env .Λ) fm are _)))

@@ -19,16 +19,13 @@ use contract.Lifetimes.{Lfts, Shares}
 use contract.Monad.{Fun, fact}
 use contract.Running.{givenOf, tables, tablesOf}
 use types.Kit.{Given, ‵, raw, _⊛_, given, some, later, _$_, _∵_, !, qed, move, keep, drop, use1, use2, split, join, pick, learn, fsplit, fjoin, show, frame, await, done}
-use types.Part.{agg, rep, whole, sub, look-in}
-use types.Run.{look, init, forget, stop, hop, fld, from, load, lit, addr, of-opd, and-then, no-more, assigns, calls, land, returns as ends, enter}
-use types.Run.{alloc1, alloc0, params1, pass1, pass0, free1, free0}
+use types.Part.{agg, rep}
+use types.Run.{look, init, stop, from, lit, addr, of-opd, and-then, no-more, assigns, calls, land, returns as ends}
 use sound.WpLaws.{FmC, fmOf}
-use denote.RattleType.{owns, flat}
-use denote.Laws.{Are, Ises}
-use denote.Plain.{uint-vals, uint-tells}
+use denote.RattleType.{owns}
+use denote.Laws.{valss}
 use denote.Builtin.{u8, i32}
-use denote.Slice.{sliceVal, slice-vals, MutSlice, mut-slice-tells, shr-slice-tells}
-use denote.Signature.{typesAt}
+use denote.Slice.{sliceVal, MutSlice}
 use denote.Steps.{heard, nothing}
 use denote.Enum.Laws as EL
 use denote.Struct.Laws as LL
@@ -37,12 +34,9 @@ use denote.Triple.Entry.{Args, Vals}
 use denote.Triple.Statement.{Triple, FmF}
 use denote.Triple.Table.{entered, cited}
 use denote.Triple.Walked.{says}
-use Rattle.endian.proofs.Order as O
-use Rattle.endian.proofs.Order.Laws as O′
 use Rattle.extents.specs.Stretches.{none}
 use Rattle.extents.specs.declared.Extent.{Extent}
 use Rattle.extents.proofs.Extent as X
-use Rattle.extents.proofs.Extent.Laws as X′
 use Rattle.grid_changes.specs.Changes.{addSays, addGrid}
 use Rattle.grid_changes.specs.declared.AddAnswer.{AddAnswer}
 use Rattle.grid_changes.proofs.AddAnswer as S
@@ -52,8 +46,13 @@ use Rattle.grid_updates.proofs.add.Symbol as callee-def
 use Rattle.grid_updates.proofs.add.Met as callee-thm
 use Rattle.table_values.proofs.Addition as D
 use Rattle.table_values.proofs.Addition.Laws as D′
-use Rattle.table_values.proofs.Calls.{Handed, Call, Own, Callee, entering, pair, Types, Landed, Lends, Left, Returns, lends-call}
-use Rattle.table_values.proofs.Lent.{places, room, none-is, fresh, fresh-val, fresh-is, τ, lent-at, typed, big-lit}
+use Rattle.extent_tables.proofs.Extents.{lawful, an-order}
+use Rattle.walks.proofs.Contracts.{entering}
+use Rattle.walks.proofs.Known.{Known, lent, shared, rows, spells, tells, passed-as, Related, typed, number}
+use Rattle.walks.proofs.Locals.{holding, starts, frees-all, at as at-local, big-lit}
+use Rattle.walks.proofs.Slices.{lends-on}
+use Rattle.table_values.proofs.Calls.{Handed, Call, Own, Callee, pair, Types, Landed, Lends, Left, Returns, lends-call}
+use Rattle.table_values.proofs.Lent.{places, room, none-is, fresh, fresh-val, fresh-is, τ, lent-at, typed as table-typed}
 use Rattle.table_values.proofs.add_with_table as self
 use Rattle.table_values.proofs.add_with_table.Code as code
 use Rattle.table_values.proofs.add_with_table.Key as key
@@ -70,22 +69,17 @@ handed = record {
   both-makes = λ 𝓤 H A. LL.makes D.the-type D′.the-plain 𝓤 H A;
 }
 
+-- what the function is passed, and its callee
+abbrev params : List (Known 3)
+params = lent 0 tt u8 ∷ an-order .known ∷ shared 1 tt u8 ∷ number w32 .known ∷ number w32 .known ∷ shared 2 tt i32 ∷ []
+
+abbrev callee-params : List (Known 4)
+callee-params = lent 0 tt u8 ∷ an-order .known ∷ shared 1 tt u8 ∷ number w32 .known ∷ number w32 .known ∷ shared 2 tt i32 ∷ lent 3 tt X.the-row ∷ []
+
 -- the machine values that the function is passed, and those that it passes on, where the table lies at b
 module _ (κs : Lfts 3) (a : Args self.signature κs) where
   abbrev at : Vals self.signature κs
-  at = (
-    slice-vals (a .0),
-    (
-      EL.vals O.the-type O′.the-laws (a .1 .0),
-      (
-        slice-vals (a .1 .1 .0),
-        (
-          uint-vals w32 (a .1 .1 .1 .0),
-          (uint-vals w32 (a .1 .1 .1 .1 .0), (slice-vals (a .1 .1 .1 .1 .1 .0), tt)),
-        ),
-      ),
-    ),
-  )
+  at = valss (rows κs params) (spells κs params) a
 
   abbrev passed : ℕ → List Val
   passed b = at .0 ++ (at .1 .0 ++ (at .1 .1 .0 ++ (at .1 .1 .1 .0 ++ (at .1 .1 .1 .1 .0 ++ (at .1 .1 .1 .1 .1 .0 ++ (sliceVal (b, 0) places ∷ []))))))
@@ -95,12 +89,10 @@ module _ {M : Type 1} (𝓤 : URA M) (H : Heap 𝓤) (A : Atoms 𝓤) (mem : Mem
   call = record {
     handed = handed;
     lifetimes = 3;
-    params = self.signature .params;
-    kept = self.ended .kept;
+    params = params;
     clauses = self.clauses 𝓤 H A mem run;
     callee-lifetimes = 4;
-    callee-params = callee.signature .params;
-    callee-kept = callee.ended .kept;
+    callee-params = callee-params;
     callee-clauses = callee.clauses 𝓤 H A mem run;
     table-lifetime = named 3;
   }
@@ -144,7 +136,7 @@ module _ {M : Type 1} (𝓤 : URA M) (H : Heap 𝓤) (A : Atoms 𝓤) (mem : Mem
       lends : Lends 𝓤 H A call y b (to b)
       lends ν γ =
           qed W ((((‵ (flft (κs .0) (qs .0)) ⊛ ‵ (flft (κs .1 .0) (qs .1 .0)) ⊛ ‵ (flft (κs .1 .1 .0) (qs .1 .1 .0)) ⊛ ‵ ftrue) ⊛
-          ‵ (owns (typesAt (self.signature .params) κs) a (at κs a))) ⊛ ‵ ftrue) ∷
+          ‵ (owns (rows κs params) a (at κs a))) ⊛ ‵ ftrue) ∷
           ‵ (flft (ν ∷ []) fullShare) ∷ ‵ (MutSlice (named 3) (ν ∷ []) X.the-row .own (lent-at b γ fresh) (sliceVal (b, 0) places ∷ [])) ∷ []) ∵
           split ! $ split ! $ split ! $ move ! (1 ∷ []) $ split ! $ move ! (1 ∷ []) $ split ! $ move ! (6 ∷ 1 ∷ []) $ join ! $ move ! (1 ∷ 0 ∷ []) $ join ! $
           move ! (1 ∷ 0 ∷ []) $ join ! $ move ! (1 ∷ 0 ∷ []) $ join ! $
@@ -176,50 +168,31 @@ module _ {M : Type 1} (𝓤 : URA M) (H : Heap 𝓤) (A : Atoms 𝓤) (mem : Mem
       calls-lent f fm known = lends-call 𝓤 H A call y b (to b) W lends returns f fm (passed κs a b) (λ ν γ. known (to b ν γ))
 
 module _ {M : Type 1} (𝓤 : URA M) (H : Heap 𝓤) (A : Atoms 𝓤) (W : Given 𝓤 H A) (C : Calls 𝓤 H) (Λ : Loops 𝓤 H) (fm : FmC 𝓤 H (W .laws) C) where
-  walk : (κs : Lfts 3) (a : Args self.signature κs) → Are (typesAt (self.signature .params) κs) (Ises (typesAt (self.signature .params) κs)) a (at κs a)
+  walk : (κs : Lfts 3) (a : Args self.signature κs) → Related κs params a
       → (P : SProp 𝓤) (K : Val → SProp 𝓤)
       → ((b : ℕ) → ent 𝓤 (sep 𝓤 P (H .at fullShare τ b 0 fresh-val)) (H .⇛ (C callee-def.name (passed κs a b) (Landed 𝓤 H A handed b K))))
-      → ent 𝓤 P (WpFn 𝓤 H C Λ code.function (flat (typesAt (self.signature .params) κs) (at κs a)) K)
-  walk κs a are P K lent =
-      qed W (raw P ∷ []) ∵ enter ! C Λ code.function _ K $
-      alloc1 ! (λ l₀. alloc1 ! (λ l₁. alloc1 ! (λ l₂. alloc1 ! (λ l₃. alloc1 ! (λ l₄. alloc1 ! (λ l₅. alloc1 ! (λ l₆. alloc1 ! (λ l₇. alloc1 ! (λ l₈. alloc1 ! (λ l₉.
-      alloc1 ! (λ l₁₀. alloc1 ! (λ l₁₁. alloc1 ! (λ l₁₂. alloc1 ! (λ l₁₃. alloc1 ! (λ l₁₄. alloc0 ! $
-      -- [_14; …; _0; …; P]: local j stands at 28 - 2 · j
-      params1 ! $ pass1 ! (init ! 26 refl (tt, (tt, (record { fits = are .0 .0 .1 .0 }, tt)))) $
-      pass1 ! (init ! 24 refl (EL.lawful O.the-type O′.the-laws 𝓤 H A W tt .typed (a .1 .0) _ (are .1 .0) .0)) $
-      pass1 ! (init ! 22 refl (tt, (tt, (record { fits = are .1 .1 .0 .0 .1 .0 }, tt)))) $ pass1 ! (init ! 20 refl (tt, record { fits = are .1 .1 .1 .0 .1 })) $
-      pass1 ! (init ! 18 refl (tt, record { fits = are .1 .1 .1 .1 .0 .1 })) $
-      pass1 ! (init ! 16 refl (tt, (tt, (record { fits = are .1 .1 .1 .1 .1 .0 .0 .1 .0 }, tt)))) $ pass0 ! $
-      assigns ! (agg ! (and-then ! (lit ! tt) (and-then ! (lit ! tt) (no-more !)))) (from ! (stop !))
-      (init ! 10 refl (LL.lawful X.the-type X′.the-laws 𝓤 H A W .typed none _ none-is .0)) $
-      assigns ! (rep ! places (load ! (from ! (stop !)) (look ! 10 refl))) (from ! (stop !)) (init ! 14 refl (typed 𝓤 H A W fresh fresh-val fresh-is .0)) $
-      assigns ! (addr ! (from ! (fld ! refl (hop ! (look-in ! 26 (sub ! 0 refl (whole !))) (stop !))))) (from ! (stop !)) (init ! 8 refl (tt, tt)) $
-      assigns ! (agg ! (and-then ! (load ! (from ! (stop !)) (look ! 8 refl))
-      (and-then ! (load ! (from ! (fld ! refl (stop !))) (look-in ! 26 (sub ! 1 refl (whole !)))) (no-more !)))) (from ! (stop !))
-      (init ! 6 refl (tt, (tt, (record { fits = are .0 .0 .1 .0 }, tt)))) $
-      assigns ! (addr ! (from ! (stop !))) (from ! (stop !)) (init ! 4 refl (tt, tt)) $
-      assigns ! (agg ! (and-then ! (load ! (from ! (stop !)) (look ! 4 refl)) (and-then ! (big-lit ! (record { fits = room .0 })) (no-more !))))
-      (from ! (stop !)) (init ! 2 refl (tt, (tt, (record { fits = room .0 }, tt)))) $
+      → ent 𝓤 P (WpFn 𝓤 H C Λ code.function (passed-as κs params a) K)
+  walk κs a are P K lent-out =
+      qed W (raw P ∷ []) ∵ starts W ! C Λ code.function (passed-as κs params a) K (typed κs 𝓤 H A W params a are) (λ l.
+      let b : ℕ = l .1 .1 .1 .1 .1 .1 .1 .0 in
+      -- [P; _0; …]: local j stands at 1 + 2 · j
+      assigns ! (agg ! (and-then ! (lit ! tt) (and-then ! (lit ! tt) (no-more !)))) (from ! (stop !)) (init ! 19 refl (lawful 𝓤 H A W .typed none _ none-is .0)) $
+      assigns ! (rep ! places (at-local ! 19 refl)) (from ! (stop !)) (init ! 15 refl (table-typed 𝓤 H A W fresh fresh-val fresh-is .0)) $
+      lends-on ! 3 21 23 refl refl refl refl refl refl (tt, tt) refl refl refl (tt, (tt, (record { fits = are .0 .0 .1 .0 }, tt))) $
+      assigns ! (addr ! (from ! (stop !))) (from ! (stop !)) (init ! 25 refl (tt, tt)) $
+      assigns ! (agg ! (and-then ! (at-local ! 25 refl) (and-then ! (big-lit ! (record { fits = room .0 })) (no-more !)))) (from ! (stop !))
+      (init ! 27 refl (tt, (tt, (record { fits = room .0 }, tt)))) $
       -- the table is lent
-      move ! (30 ∷ 14 ∷ []) $ use2 W (later (raw (C callee-def.name (passed κs a l₇) (Landed 𝓤 H A handed l₇ K)))) (lent l₇) $ await ! tt $
-      -- [the call; _14; …; _8; …; the end of _7; _6; …; _0; …]
-      calls ! fm (λ w. raw (Landed 𝓤 H A handed l₇ K w)) (and-then ! (load ! (from ! (stop !)) (look ! 7 refl)) (and-then ! (load ! (from ! (stop !)) (look ! 24 refl))
-      (and-then ! (load ! (from ! (stop !)) (look ! 22 refl)) (and-then ! (load ! (from ! (stop !)) (look ! 20 refl))
-      (and-then ! (load ! (from ! (stop !)) (look ! 18 refl)) (and-then ! (load ! (from ! (stop !)) (look ! 16 refl))
-      (and-then ! (load ! (from ! (stop !)) (look ! 3 refl)) (no-more !)))))))) (λ w.
-      use1 W (later (some (λ (v : Val). given (Types 𝓤 H A handed w v) (‵ (fat fullShare τ l₇ 0 v) ⊛ raw (K (pair w v)))))) (id⊢ 𝓤 _) $
-      await ! tt $ pick ! (λ v. learn ! (λ ts. split ! $
-      -- [_7; what is owed; _14; …; _8; …; the end of _7; _6; …; _0; …]
-      land ! (from ! (stop !)) (init ! 14 refl (ts .0 .0)) $
-      assigns ! (of-opd ! (load ! (from ! (stop !)) (look ! 0 refl))) (from ! (stop !)) (init ! 2 refl (ts .1 .0 .0)) $
-      assigns ! (agg ! (and-then ! (load ! (from ! (stop !)) (look ! 14 refl)) (and-then ! (load ! (from ! (stop !)) (look ! 2 refl)) (no-more !))))
-      (from ! (stop !)) (init ! 29 refl (ts .1 .1 .0)) $
-      ends ! (look ! 29 refl) $ forget ! 0 refl $ forget ! 2 refl $ forget ! 4 refl $ forget ! 6 refl $ forget ! 8 refl $ forget ! 10 refl $ forget ! 12 refl $
-      forget ! 14 refl $ forget ! 17 refl $ forget ! 19 refl $ forget ! 21 refl $ forget ! 23 refl $ forget ! 25 refl $ forget ! 27 refl $ forget ! 29 refl $
-      move ! (29 ∷ 30 ∷ []) $ free1 ! $ move ! (27 ∷ 28 ∷ []) $ free1 ! $ move ! (25 ∷ 26 ∷ []) $ free1 ! $ move ! (23 ∷ 24 ∷ []) $ free1 ! $
-      move ! (21 ∷ 22 ∷ []) $ free1 ! $ move ! (19 ∷ 20 ∷ []) $ free1 ! $ move ! (17 ∷ 18 ∷ []) $ free1 ! $ move ! (0 ∷ 16 ∷ []) $ free1 ! $
-      move ! (13 ∷ 14 ∷ []) $ free1 ! $ move ! (11 ∷ 12 ∷ []) $ free1 ! $ move ! (9 ∷ 10 ∷ []) $ free1 ! $ move ! (7 ∷ 8 ∷ []) $ free1 ! $
-      move ! (5 ∷ 6 ∷ []) $ free1 ! $ move ! (3 ∷ 4 ∷ []) $ free1 ! $ move ! (1 ∷ 2 ∷ []) $ free1 ! $ free0 ! $ done !))))))))))))))))))
+      move ! (0 ∷ 15 ∷ []) $ use2 W (later (raw (C callee-def.name (passed κs a b) (Landed 𝓤 H A handed b K)))) (lent-out b) $ await ! tt $
+      -- [the call; _0; …; the end of _7; _8; …]: a local j behind _7 stands at 2 · j
+      calls ! fm (λ w. raw (Landed 𝓤 H A handed b K w)) (and-then ! (at-local ! 22 refl) (and-then ! (at-local ! 5 refl) (and-then ! (at-local ! 7 refl) (and-then ! (at-local ! 9 refl) (and-then ! (at-local ! 11 refl) (and-then ! (at-local ! 13 refl) (and-then ! (at-local ! 26 refl) (no-more !)))))))) (λ w.
+      use1 W (later (some (λ (v : Val). given (Types 𝓤 H A handed w v) (‵ (fat fullShare τ b 0 v) ⊛ raw (K (pair w v)))))) (id⊢ 𝓤 _) $
+      await ! tt $ pick ! (λ v. learn ! (λ ts. split ! $ move ! (1 ∷ 2 ∷ 3 ∷ 4 ∷ 5 ∷ 6 ∷ 7 ∷ 8 ∷ 9 ∷ 10 ∷ 11 ∷ 12 ∷ 13 ∷ 14 ∷ 15 ∷ []) $
+      -- [what is owed; _0; …]: local j stands at 1 + 2 · j
+      land ! (from ! (stop !)) (init ! 17 refl (ts .0 .0)) $
+      assigns ! (of-opd ! (at-local ! 15 refl)) (from ! (stop !)) (init ! 29 refl (ts .1 .0 .0)) $
+      assigns ! (agg ! (and-then ! (at-local ! 17 refl) (and-then ! (at-local ! 29 refl) (no-more !)))) (from ! (stop !)) (init ! 1 refl (ts .1 .1 .0)) $
+      ends ! (look ! 1 refl) $ frees-all W ! (_ ∷ []) _ (holding (_ ∷ _ ∷ _ ∷ _ ∷ _ ∷ _ ∷ _ ∷ _ ∷ _ ∷ _ ∷ _ ∷ _ ∷ _ ∷ _ ∷ _ ∷ [])) (done !)))))
 
 pub add-with-table-spec : {M : Type 1} → statement M
 unfolding code.routine tablesOf
@@ -231,23 +204,7 @@ add-with-table-spec 𝓤 H 𝓜 𝓖 𝓡 =
     let k = call 𝓤 H (𝓖 .A) (𝓜 .mem) (𝓡 .run) in
     let known = cited 𝓤 H (Callee 𝓤 H (𝓖 .A) k) 𝓜 𝓡 code.env callee-def.name callee-def.routine code.calls-grid-updates·add (callee-thm.met 𝓤 H 𝓜 𝓖 𝓡) in
     entered 𝓤 H (Own 𝓤 H (𝓖 .A) k) C Λ key.name code.function (code.unfolded 𝓤 H 𝓜 𝓡)
-    (entering 𝓤 H (𝓖 .A) self.ended (k .clauses) (λ κs. (slice-vals, (EL.vals O.the-type O′.the-laws, (slice-vals, (uint-vals w32, (uint-vals w32, (slice-vals, tt)))))))
-    (λ κs. (
-      mut-slice-tells (named 0) (κs .0) u8,
-      (
-        EL.tells O.the-type O′.the-laws,
-        (
-          shr-slice-tells (named 1) (κs .1 .0) u8,
-          (
-            uint-tells w32,
-            (
-              uint-tells w32,
-              (shr-slice-tells (named 2) (κs .1 .1 .0) i32, tt),
-            ),
-          ),
-        ),
-      ),
-    ))
+    (entering 𝓤 H (𝓖 .A) self.ended (k .clauses) (λ κs. spells κs params) (λ κs. tells κs params)
     (WpFn 𝓤 H C Λ code.function)
     (λ x g are. walk 𝓤 H (𝓖 .A) W C Λ fm (x .0) (x .3) are _ _ (λ b.
     calls-lent 𝓤 H (𝓖 .A) (𝓜 .mem) (𝓡 .run) (x .0) (x .1) (x .3) W b (C callee-def.name) (fm callee-def.name) known)))

@@ -21,7 +21,7 @@ use types.Kit.{Given, Item, ‵, Post, runs, nth, put, Step, step, _$_}
 use types.Part.{Part, agg, whole, sub, look-in}
 use types.Run.{Opd, Reads, init, stop, hop, fld, from, load, addr, and-then, no-more, assigns}
 use denote.Slice.{sliceTy, sliceVal}
-use Rattle.extent_tables.proofs.Locals.{at}
+use Rattle.walks.proofs.Locals.{at}
 
 -- the entry of local x, which holds v
 abbrev Entry : {M : Type 1} (𝓤 : URA M) (H : Heap 𝓤) → Env 𝓤 H → ℕ → Val → Item 𝓤

@@ -29,7 +29,7 @@ use denote.Slice.{ShrSlice, MutSlice, heres, finally, at-slice, codedHoleys, mut
 use denote.Lend.{Held, lends-shr-slice}
 use denote.Index.{opens-slice, closes-slice}
 use denote.Steps.{peeks}
-use Rattle.extent_tables.proofs.Again.{LentAgain, lends-again, comes-back}
+use Rattle.walks.proofs.Again.{LentAgain, lends-again, comes-back}
 
 module _ (R : RattleType) (ℓ : Lifetime) (κ : Lft) (q : Share) (x : RefT (List (R .Denot))) (v : Val) where
   -- the reference under another name, at another list

@@ -1,0 +1,10 @@
+pub mod Again
+pub mod Calls
+pub mod Contracts
+pub mod Held
+pub mod Known
+pub mod LentCalls
+pub mod Locals
+pub mod Loops
+pub mod Proved
+pub mod Slices
