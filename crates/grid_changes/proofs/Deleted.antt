@@ -24,7 +24,7 @@ use Rattle.grid_rules.specs.Opening.{openWanted, openGrid}
 use Rattle.grid_rules.proofs.Acceptance.{GridAt, number-grid, file-passes, open-split}
 use Rattle.extents.specs.Stretches.{highestEnd, firstWord}
 use Rattle.extents.specs.Steps.{Accepted, Slots}
-use Rattle.grid_changes.specs.Changes.{setWord, deleteOwn, deleteRules, withoutGrid}
+use Rattle.grid_changes.specs.Changes.{setWord, nextFreeSet, deleteOwn, deleteRules, withoutGrid}
 use Rattle.grid_changes.proofs.Words.{set-length, set-here, set-other, set-byte}
 use Rattle.grid_changes.proofs.Highest.{HighestIs, Laid, Fewer, laid-slots, laid-highest, laid-fewer, next-length, next-other, next-byte, next-word, next-highest, laid-accepted, accepted-laid, open-alike}
 
@@ -63,10 +63,14 @@ delete-passes o f number size =
           ∙ hold-pass rest (table .complete (d .table), (range .complete (d .from, d .to), (full .complete (d .full), tt))),
     )
 
+-- a file is as long as it was once a word is set, and then the next free word
+set-next-length : (o : Order) (f : List ℕ) (k n : ℕ) → length (nextFreeSet o (setWord o f k n)) ≡ length f
+set-next-length o f k n = next-length o (setWord o f k n) ∙ set-length o f k n
+
 -- the changed file is as long as it was
 pub deleted-length : (o : Order) (f : List ℕ) (number : ℕ) → length (withoutGrid o f number) ≡ length f
 unfolding withoutGrid
-deleted-length o f number = next-length o (setWord o f (10 + number) emptySlot) ∙ set-length o f (10 + number) emptySlot
+deleted-length o f number = set-next-length o f _ _
 
 module _ (o : Order) (f : List ℕ) (number size : ℕ) (pass : firstFault (deleteRules o f number size) ≡ Pass) where
   d : Deletes o f number size

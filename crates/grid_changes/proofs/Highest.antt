@@ -280,17 +280,17 @@ module _ (o : Order) (f : List ℕ) where
   -- the file is as long as it was
   pub next-length : length (nextFreeSet o f) ≡ length f
   unfolding nextFreeSet
-  next-length = set-length o f (11 + wordAt o f 10) (highestEnd (wordAt o f) (firstWord (wordAt o f)) (wordAt o f 10))
+  next-length = set-length o f _ _
 
   -- every other word is as it was
   pub next-other : (j : ℕ) → ¬ (j ≡ 11 + wordAt o f 10) → wordAt o (nextFreeSet o f) j ≡ wordAt o f j
   unfolding nextFreeSet
-  next-other = set-other o f (11 + wordAt o f 10) (highestEnd (wordAt o f) (firstWord (wordAt o f)) (wordAt o f 10))
+  next-other = set-other o f _ _
 
   -- and so is every byte outside that word
   pub next-byte : (i : ℕ) → Outside i (4 * (11 + wordAt o f 10)) 4 → getD (nextFreeSet o f) i 0 ≡ getD f i 0
   unfolding nextFreeSet
-  next-byte = set-byte o f (11 + wordAt o f 10) (highestEnd (wordAt o f) (firstWord (wordAt o f)) (wordAt o f 10))
+  next-byte = set-byte o f _ _
 
   -- n is as it was
   pub next-count : wordAt o (nextFreeSet o f) 10 ≡ wordAt o f 10

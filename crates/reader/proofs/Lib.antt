@@ -1,4 +1,3 @@
 pub mod Calls
 pub mod Known
-pub mod Locals
 pub mod Making

@@ -21,7 +21,7 @@ use types.Kit.{Given, ‵, raw, _⊛_, some, later, _$_, _∵_, !, qed, move, re
 use contract.Lifetimes.{Lfts, Shares, toks}
 use contract.Monad.{Fun, fact}
 use contract.Running.{Running, GhostRules, givenOf, tables, tablesOf}
-use denote.RattleType.{RattleType, Denots, flat, owns}
+use denote.RattleType.{RattleType, Denots, mirs, owns}
 use denote.Laws.{Typed, Is, valss, shows}
 use denote.Slice.{slice-vals}
 use denote.Steps.{peeks, heard, nothing}
@@ -34,14 +34,18 @@ use denote.Triple.Walked.{says}
 use Rattle.reader.specs.declared.Reader.{Reader}
 use Rattle.reader.proofs.Reader as T
 use Rattle.reader.proofs.Reader.Laws as T′
-use Rattle.reader.proofs.Known.{Known, ended, rows, spells, Typeds, typeds, bytes, layout, layout-vals, a-reader}
-use Rattle.reader.proofs.Calls.{Contracted, entering, answers, Ensures, with-ensures, Follows, follows, D, L, B, value, Apart, Whole, through, said-apart}
+use Rattle.walks.proofs.Calls.{hands-on}
+use Rattle.walks.proofs.Contracts.{Contracted, entering, Ensures, with-ensures, Follows, follows}
+use Rattle.walks.proofs.Known.{Known, rows, spells, tells, passed-as, typed, ended}
+use Rattle.reader.proofs.Known.{bytes, layout, layout-vals, a-reader}
+use Rattle.reader.proofs.Calls.{D, L, B, value, Apart, Whole, through, said-apart}
 
-abbrev two : List (Known 1)
+-- a file and a layout
+abbrev pub two : List (Known 1)
 two = bytes ∷ layout ∷ []
 
 abbrev pub Made : Ended
-Made = ended two a-reader
+Made = ended two (a-reader .slot)
 
 module _ {M : Type 1} (𝓤 : URA M) (H : Heap 𝓤) (A : Atoms 𝓤) where
   abbrev pub made : Clauses 𝓤 Made
@@ -49,12 +53,15 @@ module _ {M : Type 1} (𝓤 : URA M) (H : Heap 𝓤) (A : Atoms 𝓤) where
 
   -- the code of `run`, passed a file and a layout, gives the reader of the two
   abbrev pub Shuts : Fun 𝓤 → Type 2
-  Shuts run = (κs : Lfts 1) (d : Reader) → Typeds {n = 1} κs (a-reader ∷ two) (d, (d .file, (d .layout, tt))) → (K : Val → SProp 𝓤)
-      → ent 𝓤 (K (value (κs .0) d)) (run (flat (rows κs two) (valss (rows κs two) (spells κs two) (d .file, (d .layout, tt)))) K)
+  Shuts run = (κs : Lfts 1) (d : Reader) → Typed (mirs (rows κs (a-reader ∷ two))) (passed-as κs (a-reader ∷ two) (d, (d .file, (d .layout, tt)))) → (K : Val → SProp 𝓤)
+      → ent 𝓤 (K (value (κs .0) d)) (run (passed-as κs two (d .file, (d .layout, tt))) K)
 
   module _ (W : Given 𝓤 H A) where
     pub shuts : (run : Fun 𝓤) → Shuts run → Triple 𝓤 run (Contracted 𝓤 H A Made made)
-    shuts run walk = entering 𝓤 H A W two a-reader made run (λ κs qs a g are.
+    shuts run walk = entering 𝓤 H A Made made (λ κs. spells κs two) (λ κs. tells κs two) run (λ x g are.
+        let κs = x .0 in
+        let qs = x .1 in
+        let a = x .3 in
         let κ = κs .0 in
         let d : Reader = record { file = a .0; layout = a .1 .0 } in
         via 𝓤 (Contracted 𝓤 H A Made made .post ((κs, qs, tt, a, (slice-vals (a .0), (layout-vals (a .1 .0), tt))), g) (value κ d))
@@ -63,7 +70,7 @@ module _ {M : Type 1} (𝓤 : URA M) (H : Heap 𝓤) (A : Atoms 𝓤) where
         split ! $ move ! (1 ∷ []) $ use1 W (‵ (B κ .own d (value κ d ∷ []))) (own-shut 𝓤 H A W (D κ) (L κ) (d .file, (d .layout, tt))) $ move ! (1 ∷ 0 ∷ []) $ join ! $ frame ! $
         show ! (λ (ws : Lasts Made κs a). sep 𝓤 (sem 𝓤 H A (lasts Made κs a ws)) (fact 𝓤 (d ≡ d))) (tt, (tt, tt)) $
         says ! refl $ nothing ! $ fjoin ! $ nothing ! $ fjoin ! $ done !)
-        (walk κs d (typeds {n = 1} κs 𝓤 H A W (a-reader ∷ two) (d, a) (LL.owes (D κ) (L κ) d (are .0, (are .1 .0, tt)), are)) _))
+        (walk κs d (typed {n = 1} κs 𝓤 H A W (a-reader ∷ two) (d, a) (LL.owes (D κ) (L κ) d (are .0, (are .1 .0, tt)), are)) _))
 
 -- ---- a reader is made, and passed on
 -- the reader's type as a local of a body has it
@@ -73,10 +80,11 @@ Local κ = T.the-row (record { mir = erased; lft = κ })
 module _ {M : Type 1} (𝓤 : URA M) (H : Heap 𝓤) (A : Atoms 𝓤) (ks : List (Known 1)) (r : Known 1) where
   -- the code of `run`, passed a file and a layout, has `maker` make a reader of the two, calls `callee` with that, and gives what that gives
   abbrev pub Passes : Fun 𝓤 → Fun 𝓤 → Fun 𝓤 → Type 2
-  Passes maker callee run = (κs : Lfts 1) (a : Denots (rows κs (bytes ∷ layout ∷ ks))) → Typeds κs (bytes ∷ layout ∷ ks) a → (K K₁ K′ : Val → SProp 𝓤)
-      → ((w : Val) → ent 𝓤 (K w) (H .⇛ (guard 𝓤 (Typed (Local (κs .0) .mir) (w ∷ [])) (callee (w ∷ flat (rows κs ks) (valss (rows κs ks) (spells κs ks) (a .1 .1))) K₁))))
+  Passes maker callee run = (κs : Lfts 1) (a : Denots (rows κs (bytes ∷ layout ∷ ks)))
+      → Typed (mirs (rows κs (bytes ∷ layout ∷ ks))) (passed-as κs (bytes ∷ layout ∷ ks) a) → (K K₁ K′ : Val → SProp 𝓤)
+      → ((w : Val) → ent 𝓤 (K w) (H .⇛ (guard 𝓤 (Typed (Local (κs .0) .mir) (w ∷ [])) (callee (w ∷ passed-as κs ks (a .1 .1)) K₁))))
       → ((u : Val) → ent 𝓤 (K₁ u) (H .⇛ (guard 𝓤 (Typed (r .slot .row κs .mir) (u ∷ [])) (K′ u))))
-      → ent 𝓤 (maker (flat (rows κs two) (valss (rows κs two) (spells κs two) (a .0, (a .1 .0, tt)))) K) (run (flat (rows κs (bytes ∷ layout ∷ ks)) (valss (rows κs (bytes ∷ layout ∷ ks)) (spells κs (bytes ∷ layout ∷ ks)) a)) K′)
+      → ent 𝓤 (maker (passed-as κs two (a .0, (a .1 .0, tt))) K) (run (passed-as κs (bytes ∷ layout ∷ ks) a) K′)
 
   module _ (W : Given 𝓤 H A) (c : Clauses 𝓤 (Apart ks r)) (maker callee run : Fun 𝓤) (fm : FmF 𝓤 maker) (met-made : Triple 𝓤 maker (Contracted 𝓤 H A Made (made 𝓤 H A)))
       (met : Triple 𝓤 callee (Contracted 𝓤 H A (Whole ks r) (through 𝓤 H A ks r c))) where
@@ -104,7 +112,7 @@ module _ {M : Type 1} (𝓤 : URA M) (H : Heap 𝓤) (A : Atoms 𝓤) (ks : List
 
       -- the reader that the maker gives is passed on
       passes-on : (w : Val) → ent 𝓤 (sep 𝓤 (Contracted 𝓤 H A Made (made 𝓤 H A) .post to-maker w) Rest)
-          (H .⇛ (guard 𝓤 (Typed (Local κ .mir) (w ∷ [])) (callee (w ∷ flat (rows κs ks) (valss (rows κs ks) (spells κs ks) (a .1 .1))) (Contracted 𝓤 H A (Whole ks r) (through 𝓤 H A ks r c) .post (to w)))))
+          (H .⇛ (guard 𝓤 (Typed (Local κ .mir) (w ∷ [])) (callee (w ∷ passed-as κs ks (a .1 .1)) (Contracted 𝓤 H A (Whole ks r) (through 𝓤 H A ks r c) .post (to w)))))
       passes-on w =
           qed W (later (some (λ (x : Reader). (raw (toks 𝓤 A 1 κs qs) ⊛ ‵ (B κ .own x (w ∷ []))) ⊛ raw (ensured 𝓤 H A Made (made 𝓤 H A) κs (a .0, (a .1 .0, tt)) tt x))) ∷
           (‵ (owns (rows κs ks) (a .1 .1) (valss (rows κs ks) (spells κs ks) (a .1 .1))) ⊛ raw (c κs a .requires g)) ∷ []) ∵ updating ! $ await ! tt $ pick ! (λ x. split ! $ move ! (1 ∷ []) $
@@ -115,14 +123,18 @@ module _ {M : Type 1} (𝓤 : URA M) (H : Heap 𝓤) (A : Atoms 𝓤) (ks : List
           move ! (2 ∷ []) $ split ! $ move ! (2 ∷ 0 ∷ []) $ fjoin ! $ move ! (2 ∷ 0 ∷ []) $ join ! $ frame ! $ done !)))
 
     pub passes : Passes maker callee run → Triple 𝓤 run (Contracted 𝓤 H A (Apart ks r) c)
-    passes walk = entering 𝓤 H A W (bytes ∷ layout ∷ ks) r c run (λ κs qs a g are.
+    passes walk = entering 𝓤 H A (Apart ks r) c (λ κs. spells κs (bytes ∷ layout ∷ ks)) (λ κs. tells κs (bytes ∷ layout ∷ ks)) run (λ x g are.
+        let κs = x .0 in
+        let qs = x .1 in
+        let a = x .3 in
         via 𝓤 (maker (Contracted 𝓤 H A Made (made 𝓤 H A) .args (to-maker κs qs a g)) (λ w. sep 𝓤 (Contracted 𝓤 H A Made (made 𝓤 H A) .post (to-maker κs qs a g) w) (Rest κs qs a g)))
         (via 𝓤 (sep 𝓤 (Contracted 𝓤 H A Made (made 𝓤 H A) .pre (to-maker κs qs a g)) (Rest κs qs a g))
         (qed W ((raw (toks 𝓤 A 1 κs qs) ⊛ ‵ (owns (rows κs (bytes ∷ layout ∷ ks)) a (valss (rows κs (bytes ∷ layout ∷ ks)) (spells κs (bytes ∷ layout ∷ ks)) a))) ∷ raw (c κs a .requires g) ∷ []) ∵
         split ! $ move ! (1 ∷ []) $ fsplit ! $ move ! (1 ∷ []) $ fsplit ! $ nothing ! $ move ! (1 ∷ 0 ∷ []) $ fjoin ! $ move ! (2 ∷ 0 ∷ []) $ fjoin ! $ move ! (2 ∷ 0 ∷ []) $ join ! $ nothing ! $ move ! (1 ∷ 0 ∷ []) $ join ! $ frame ! $ done !)
         (via 𝓤 (sep 𝓤 (maker (Contracted 𝓤 H A Made (made 𝓤 H A) .args (to-maker κs qs a g)) (Contracted 𝓤 H A Made (made 𝓤 H A) .post (to-maker κs qs a g))) (Rest κs qs a g)) (monoL 𝓤 (Rest κs qs a g) (met-made (to-maker κs qs a g)))
         (fm _ _ _ (Rest κs qs a g) (λ w. id⊢ 𝓤 _))))
-        (walk κs a (typeds κs 𝓤 H A W (bytes ∷ layout ∷ ks) a are) _ _ _ (passes-on κs qs a g) (answers 𝓤 H A W κs qs r _ _ (said-apart 𝓤 H A ks r W c κs (d κs qs a g, a .1 .1) g))))
+        (walk κs a (typed κs 𝓤 H A W (bytes ∷ layout ∷ ks) a are) _ _ _ (passes-on κs qs a g)
+        (hands-on 𝓤 H A W 1 κs qs (r .slot .row κs) (r .lawful 𝓤 H A W κs) _ _ (said-apart 𝓤 H A ks r W c κs (d κs qs a g, a .1 .1) g))))
 
 -- ---- of the machine's own tables
 module _ {M : Type 1} (𝓤 : URA M) (H : Heap 𝓤) (𝓜 : Model 𝓤 H) (𝓖 : GhostRules 𝓤 H) (𝓡 : Running 𝓤 H 𝓜) (γ : Env) where

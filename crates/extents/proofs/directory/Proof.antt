@@ -5,13 +5,6 @@ use Rattle.extents.specs.Steps.{directory}
 use lib.ListN.{length}
 use denote.Ref.{now}
 use borrow.Author.Needs.{needs}
--- `extents::directory` meets its contract.
--- Assumes nothing.
-use borrow.Author.Tests.{le-leb, lt-leb}
-use Rattle.extents.specs.Steps.{directory}
-use lib.ListN.{length}
-use denote.Ref.{now}
-use borrow.Author.Needs.{needs}
 use Rattle.extents.proofs.directory.Statement.{statement}
 use Rattle.extents.proofs.directory.Tie as tie
 

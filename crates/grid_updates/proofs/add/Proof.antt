@@ -44,8 +44,6 @@ use Rattle.extents.specs.declared.Extent.{Extent}
 use Rattle.extents.proofs.Extent as X
 use Rattle.extents.proofs.Extent.Laws as X′
 use Rattle.extent_tables.proofs.Extents.{value, makes, told, order-value, makes-order, an-order, an-extent}
-use Rattle.walks.proofs.Locals.{env, holding, cell, starts, frees-all, at}
-use Rattle.walks.proofs.Proved.{Done, proved}
 use Rattle.extent_tables.proofs.fill.Met as fill-met
 use Rattle.extent_tables.proofs.fill.Symbol as fill-def
 use Rattle.extent_tables.proofs.fill.Symbol.{name as #fill}
@@ -74,9 +72,11 @@ use Rattle.grid_writes.proofs.plan_add.Symbol as plans-def
 use Rattle.grid_writes.proofs.plan_add.Symbol.{name as #plans}
 use Rattle.walks.proofs.Calls.{Yields, onward}
 use Rattle.walks.proofs.Contracts.{Contracted}
+use Rattle.walks.proofs.Held.{Holds, counts}
 use Rattle.walks.proofs.Known.{Parameter, shared, record-of, number, by-value, seen, held, knowns, stays, rows, Related, typed}
 use Rattle.walks.proofs.LentCalls.{lends-mut, lends-shr, lends-both}
-use Rattle.walks.proofs.Held.{Holds, counts}
+use Rattle.walks.proofs.Locals.{env, holding, cell, starts, frees-all, at}
+use Rattle.walks.proofs.Proved.{Done, proved}
 use Rattle.walks.proofs.Slices.{member, lends-on}
 use Rattle.grid_updates.proofs.Filling.{Filling, fills}
 use Rattle.grid_updates.proofs.add as self

@@ -43,8 +43,6 @@ use Rattle.extents.specs.Steps.{runsOver}
 use Rattle.extents.specs.declared.Extent.{Extent}
 use Rattle.extents.proofs.Extent as X
 use Rattle.extent_tables.proofs.Extents.{order-value, an-order}
-use Rattle.walks.proofs.Locals.{env, holding, cell, starts, frees-all, at}
-use Rattle.walks.proofs.Proved.{Done, proved}
 use Rattle.extent_tables.proofs.fill.Met as fill-met
 use Rattle.extent_tables.proofs.fill.Symbol as fill-def
 use Rattle.extent_tables.proofs.fill.Symbol.{name as #fill}
@@ -59,9 +57,11 @@ use Rattle.grid_writes.proofs.delete_in.Symbol as deletes-def
 use Rattle.grid_writes.proofs.delete_in.Symbol.{name as #deletes}
 use Rattle.walks.proofs.Calls.{Yields, onward}
 use Rattle.walks.proofs.Contracts.{Contracted}
+use Rattle.walks.proofs.Held.{Holds, counts}
 use Rattle.walks.proofs.Known.{Parameter, number, types-of, owned-values, by-value, held, knowns, stays, rows, Related, typed}
 use Rattle.walks.proofs.LentCalls.{lends-mut}
-use Rattle.walks.proofs.Held.{Holds, counts}
+use Rattle.walks.proofs.Locals.{env, holding, cell, starts, frees-all, at}
+use Rattle.walks.proofs.Proved.{Done, proved}
 use Rattle.walks.proofs.Slices.{member, lends-on}
 use Rattle.grid_updates.proofs.Filling.{Filling, fills}
 use Rattle.grid_updates.proofs.delete as self

@@ -8,17 +8,19 @@ use prog.Wp.{Heap, Calls, Loops, WpFn}
 use ghost.Atoms.{Atoms}
 use contract.Running.{givenOf}
 use types.Kit.{Given, raw, _$_, _∵_, !, qed, done}
-use types.Part.{whole, sub, look-in}
-use types.Run.{look, init, stop, fld, from, load, of-opd, and-then, no-more, assigns, calls, land, returns, enter, alloc0, params1, pass1, pass0, free0}
+use types.Run.{look, init, stop, from, of-opd, and-then, no-more, assigns, calls, land, returns}
 use sound.WpLaws.{FmC}
 use Rattle.refusal.proofs.WordAnswer as Answer
 use Rattle.refusal.proofs.WordAnswer.Laws as Answer′
 use Rattle.values.proofs.read_field as callee
 use Rattle.values.proofs.read_field.Met as callee-met
 use Rattle.values.proofs.read_field.Symbol as callee-def
+use Rattle.walks.proofs.Calls.{informs}
+use Rattle.walks.proofs.Known.{Known, one-of, passed-as}
+use Rattle.walks.proofs.Locals.{holding, starts, frees-all, at}
+use Rattle.walks.proofs.Slices.{member}
 use Rattle.reader.proofs.Calls.{Opens, opened}
-use Rattle.reader.proofs.Known.{Known, number, one-of}
-use Rattle.reader.proofs.Locals.{lays, at, informs, gone}
+use Rattle.reader.proofs.Known.{number, a-reader}
 use Rattle.reader.proofs.field as self
 use Rattle.reader.proofs.field.Code as code
 use Rattle.reader.proofs.field.Key as key
@@ -34,15 +36,13 @@ answer = one-of Answer.the-type Answer′.the-laws tt
 module _ {M : Type 1} (𝓤 : URA M) (H : Heap 𝓤) (A : Atoms 𝓤) (W : Given 𝓤 H A) (C : Calls 𝓤 H) (Λ : Loops 𝓤 H) (fm : FmC 𝓤 H (W .laws) C) where
   walk : Opens 𝓤 H A beside answer (C callee-def.name) (WpFn 𝓤 H C Λ code.function)
   walk κs d a ts K K′ says =
-      qed W (raw (C callee-def.name _ K) ∷ []) ∵ enter ! C Λ code.function _ K′ $
-      lays ! (λ l₀. lays ! (λ l₁. lays ! (λ l₂. lays ! (λ l₃. lays ! (λ l₄. lays ! (λ l₅. lays ! (λ l₆. alloc0 ! $
+      qed W (raw (C callee-def.name _ K) ∷ []) ∵ starts W ! C Λ code.function (passed-as κs (a-reader ∷ beside) (d, a)) K′ (ts .0, ts .1 .1 .1) (λ l.
       -- [the call; _0; …; _6; …]: local j stands at 1 + 2 · j
-      params1 ! $ pass1 ! (init ! 3 refl (ts .0 .0)) $ pass1 ! (init ! 5 refl (ts .1 .1 .1 .0 .0)) $ pass1 ! (init ! 7 refl (ts .1 .1 .1 .1 .0 .0)) $ pass1 ! (init ! 9 refl (ts .1 .1 .1 .1 .1 .0 .0)) $ pass0 ! $
-      assigns ! (of-opd ! (load ! (from ! (fld ! refl (stop !))) (look-in ! 3 (sub ! 0 refl (whole !))))) (from ! (stop !)) (init ! 11 refl (ts .1 .0 .0)) $
-      assigns ! (of-opd ! (load ! (from ! (fld ! refl (stop !))) (look-in ! 3 (sub ! 1 refl (whole !))))) (from ! (stop !)) (init ! 13 refl (ts .1 .1 .0 .0)) $
+      assigns ! (of-opd ! (member ! 3 0 refl refl refl)) (from ! (stop !)) (init ! 11 refl (ts .1 .0)) $
+      assigns ! (of-opd ! (member ! 3 1 refl refl refl)) (from ! (stop !)) (init ! 13 refl (ts .1 .1 .0)) $
       calls ! fm (λ u. raw (K u)) (and-then ! (at ! 11 refl) (and-then ! (at ! 13 refl) (and-then ! (at ! 5 refl) (and-then ! (at ! 7 refl) (and-then ! (at ! 9 refl) (no-more !)))))) (λ u.
       informs ! tt (says u) (λ typed. land ! (from ! (stop !)) (init ! 1 refl (typed .0)) $ returns ! (look ! 1 refl) $
-      gone ! $ gone ! $ gone ! $ gone ! $ gone ! $ gone ! $ gone ! $ free0 ! $ done !)))))))))
+      frees-all W ! (_ ∷ []) _ (holding (_ ∷ _ ∷ _ ∷ _ ∷ _ ∷ _ ∷ _ ∷ [])) (done !))))
 
 pub field-spec : {M : Type 1} → statement M
 unfolding code.routine

@@ -9,10 +9,11 @@ use ghost.Atoms.{Atoms}
 use contract.Running.{givenOf}
 use types.Kit.{Given, raw, _$_, _∵_, !, qed, done}
 use types.Part.{agg}
-use types.Run.{look, init, stop, from, and-then, no-more, assigns, returns, enter, alloc0, params1, pass1, pass0, free0}
+use types.Run.{look, init, stop, from, and-then, no-more, assigns, returns}
+use Rattle.walks.proofs.Known.{passed-as}
+use Rattle.walks.proofs.Locals.{holding, starts, frees-all, at}
 use Rattle.reader.proofs.Calls.{value}
-use Rattle.reader.proofs.Locals.{lays, at, gone}
-use Rattle.reader.proofs.Making.{Shuts, shut}
+use Rattle.reader.proofs.Making.{two, Shuts, shut}
 use Rattle.reader.proofs.new as self
 use Rattle.reader.proofs.new.Code as code
 use Rattle.reader.proofs.new.Key as key
@@ -21,11 +22,10 @@ use Rattle.reader.proofs.new.Statement.{statement}
 module _ {M : Type 1} (𝓤 : URA M) (H : Heap 𝓤) (A : Atoms 𝓤) (W : Given 𝓤 H A) (C : Calls 𝓤 H) (Λ : Loops 𝓤 H) where
   walk : Shuts 𝓤 H A (WpFn 𝓤 H C Λ code.function)
   walk κs d ts K =
-      qed W (raw (K (value (κs .0) d)) ∷ []) ∵ enter ! C Λ code.function _ K $ lays ! (λ l₀. lays ! (λ l₁. lays ! (λ l₂. alloc0 ! $
+      qed W (raw (K (value (κs .0) d)) ∷ []) ∵ starts W ! C Λ code.function (passed-as κs two (d .file, (d .layout, tt))) K (ts .1) (λ l.
       -- [what is to be had at the end; _0; …; _2; …]: local j stands at 1 + 2 · j
-      params1 ! $ pass1 ! (init ! 3 refl (ts .1 .0 .0)) $ pass1 ! (init ! 5 refl (ts .1 .1 .0 .0)) $ pass0 ! $
-      assigns ! (agg ! (and-then ! (at ! 3 refl) (and-then ! (at ! 5 refl) (no-more !)))) (from ! (stop !)) (init ! 1 refl (ts .0 .0)) $
-      returns ! (look ! 1 refl) $ gone ! $ gone ! $ gone ! $ free0 ! $ done !)))
+      assigns ! (agg ! (and-then ! (at ! 3 refl) (and-then ! (at ! 5 refl) (no-more !)))) (from ! (stop !)) (init ! 1 refl (ts .0)) $
+      returns ! (look ! 1 refl) $ frees-all W ! (_ ∷ []) _ (holding (_ ∷ _ ∷ _ ∷ [])) (done !))
 
 pub new-spec : {M : Type 1} → statement M
 unfolding code.routine

@@ -8,13 +8,15 @@ use prog.Wp.{Heap, Calls, Loops, WpFn}
 use ghost.Atoms.{Atoms}
 use contract.Running.{givenOf}
 use types.Kit.{Given, raw, _$_, _∵_, !, qed, done}
-use types.Run.{look, init, stop, from, and-then, no-more, calls, land, returns, enter, alloc0, params1, pass1, pass0, free0}
+use types.Run.{look, init, stop, from, and-then, no-more, calls, land, returns}
 use sound.WpLaws.{FmC}
 use Rattle.refusal.proofs.NumberAnswer as Answer
 use Rattle.refusal.proofs.NumberAnswer.Laws as Answer′
 use Rattle.values.proofs.read_sample as read_sample
-use Rattle.reader.proofs.Known.{Known, number, channel, one-of}
-use Rattle.reader.proofs.Locals.{lays, at, informs, gone}
+use Rattle.walks.proofs.Calls.{informs}
+use Rattle.walks.proofs.Known.{Known, one-of, passed-as}
+use Rattle.walks.proofs.Locals.{holding, starts, frees-all, at}
+use Rattle.reader.proofs.Known.{number, channel, bytes, layout}
 use Rattle.reader.proofs.Making.{Passes, passed}
 use Rattle.reader.proofs.new.Met as new-met
 use Rattle.reader.proofs.new.Symbol as new-def
@@ -35,14 +37,12 @@ answer = one-of Answer.the-type Answer′.the-laws tt
 module _ {M : Type 1} (𝓤 : URA M) (H : Heap 𝓤) (A : Atoms 𝓤) (W : Given 𝓤 H A) (C : Calls 𝓤 H) (Λ : Loops 𝓤 H) (fm : FmC 𝓤 H (W .laws) C) where
   walk : Passes 𝓤 H A beside answer (C new-def.name) (C sample-def.name) (WpFn 𝓤 H C Λ code.function)
   walk κs a ts K K₁ K′ goes-on says =
-      qed W (raw (C new-def.name _ K) ∷ []) ∵ enter ! C Λ code.function _ K′ $
-      lays ! (λ l₀. lays ! (λ l₁. lays ! (λ l₂. lays ! (λ l₃. lays ! (λ l₄. lays ! (λ l₅. lays ! (λ l₆. alloc0 ! $
+      qed W (raw (C new-def.name _ K) ∷ []) ∵ starts W ! C Λ code.function (passed-as κs (bytes ∷ layout ∷ beside) a) K′ ts (λ l.
       -- [the call; _0; …; _6; …]: local j stands at 1 + 2 · j
-      params1 ! $ pass1 ! (init ! 3 refl (ts .0 .0)) $ pass1 ! (init ! 5 refl (ts .1 .0 .0)) $ pass1 ! (init ! 7 refl (ts .1 .1 .0 .0)) $ pass1 ! (init ! 9 refl (ts .1 .1 .1 .0 .0)) $ pass1 ! (init ! 11 refl (ts .1 .1 .1 .1 .0 .0)) $ pass0 ! $
       calls ! fm (λ w. raw (K w)) (and-then ! (at ! 3 refl) (and-then ! (at ! 5 refl) (no-more !))) (λ w. informs ! tt (goes-on w) (λ typed. land ! (from ! (stop !)) (init ! 13 refl (typed .0)) $
       calls ! fm (λ u. raw (K₁ u)) (and-then ! (at ! 13 refl) (and-then ! (at ! 7 refl) (and-then ! (at ! 9 refl) (and-then ! (at ! 11 refl) (no-more !))))) (λ u.
       informs ! tt (says u) (λ typed′. land ! (from ! (stop !)) (init ! 1 refl (typed′ .0)) $ returns ! (look ! 1 refl) $
-      gone ! $ gone ! $ gone ! $ gone ! $ gone ! $ gone ! $ gone ! $ free0 ! $ done !)))))))))))
+      frees-all W ! (_ ∷ []) _ (holding (_ ∷ _ ∷ _ ∷ _ ∷ _ ∷ _ ∷ _ ∷ [])) (done !))))))
 
 pub read-through-spec : {M : Type 1} → statement M
 unfolding code.routine

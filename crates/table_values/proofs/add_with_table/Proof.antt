@@ -44,13 +44,13 @@ use Rattle.grid_changes.proofs.AddAnswer.Laws as S′
 use Rattle.grid_updates.proofs.add as callee
 use Rattle.grid_updates.proofs.add.Symbol as callee-def
 use Rattle.grid_updates.proofs.add.Met as callee-thm
-use Rattle.table_values.proofs.Addition as D
-use Rattle.table_values.proofs.Addition.Laws as D′
-use Rattle.extent_tables.proofs.Extents.{lawful, an-order}
 use Rattle.walks.proofs.Contracts.{entering}
 use Rattle.walks.proofs.Known.{Known, lent, shared, rows, spells, tells, passed-as, Related, typed, number}
 use Rattle.walks.proofs.Locals.{holding, starts, frees-all, at as at-local, big-lit}
 use Rattle.walks.proofs.Slices.{lends-on}
+use Rattle.table_values.proofs.Addition as D
+use Rattle.table_values.proofs.Addition.Laws as D′
+use Rattle.extent_tables.proofs.Extents.{lawful, an-order}
 use Rattle.table_values.proofs.Calls.{Handed, Call, Own, Callee, pair, Types, Landed, Lends, Left, Returns, lends-call}
 use Rattle.table_values.proofs.Lent.{places, room, none-is, fresh, fresh-val, fresh-is, τ, lent-at, typed as table-typed}
 use Rattle.table_values.proofs.add_with_table as self
