@@ -5,32 +5,34 @@ use mathlib.Core.Path.{_≡_, refl, sym, ap, subst, _∙_}
 use mathlib.Core.Bool.{Bool, true, false, false≢true}
 use mathlib.Core.Logic.{_⊎_, inl, inr, ⊎-elim, _↔_}
 use mathlib.Core.List.{List, [], _∷_, _++_}
-use Prim.Native.Nat.{ℕ, _+_, _-_, _*_, _/_, _≤_, _<_}
+use Prim.Native.Nat.{ℕ, zero, suc, _+_, _-_, _*_, _/_, _≤_, _<_}
 use native.Mathlib.Omega.{arith}
-use lib.Dec.{ltb}
+use lib.Dec.{leb, ltb}
 use lib.IntN.{ℤ}
 use lib.ListN.{length}
-use borrow.Author.Tests.{le-leb, lt-ltb, ltb-true, ltb-false, eqb-false, eq-eqb}
+use borrow.Author.Tests.{le-leb, lt-leb, leb-false, lt-ltb, ltb-true, ltb-false, eqb-false, eq-eqb}
+use Rattle.lists.proofs.Choices.{pick-cases}
 use Rattle.lists.proofs.Lowest.{lowest-is}
 use Rattle.endian.specs.Words.{wordAt}
 use Rattle.endian.specs.declared.Order.{Order}
-use Rattle.refusal.specs.Rules.{Rule, rule, judge, first, firstFault, tabled}
-use Rattle.refusal.specs.Answers.{gives, refuses}
+use Rattle.refusal.specs.Rules.{Rule, rule, judge, first, firstFault, tabled, Every}
+use Rattle.refusal.specs.Answers.{gives, refuses, answered}
 use Rattle.refusal.specs.declared.Refusal.{Refusal}
 use Rattle.refusal.specs.declared.Verdict.{Verdict}
 use Rattle.refusal.specs.declared.Verdict.the-variants.{Pass, Fault}
-use Rattle.refusal.proofs.Answers.{gives-same, gives-refuses, refuses-same}
+use Rattle.refusal.proofs.Answers.{gives-same, gives-refuses, refuses-same, never-refused}
 use Rattle.refusal.proofs.Exactness.{within-exactly}
-use Rattle.refusal.proofs.Tables.{fault-pass, pass-joined}
-use Rattle.grid_rules.specs.Rules.{emptySlot, isEmpty, gridEnd, fileRules, wantedRules}
+use Rattle.refusal.proofs.Tables.{fault-pass, joined, pass-joined, every-both}
+use Rattle.grid_rules.specs.Rules.{nextFree, emptySlot, isEmpty, gridEnd, headRules, headerRules, sizeRules, ownRules, overlapRule, slotRules, slotsRules, fileRules, wantedRules}
 use Rattle.grid_rules.specs.Accepts.{Full, AcceptsFile}
 use Rattle.grid_rules.proofs.Slots.{number-slot, Misses}
 use Rattle.grid_rules.proofs.Acceptance.{GridAt, file-passes, slot-grid, number-grid, slots-apart}
 use Rattle.extents.specs.Rooms.{hasRoom}
 use Rattle.extents.specs.declared.Extent.{Extent}
-use Rattle.extents.proofs.Free.{fails, own-exactly}
+use Rattle.extents.specs.Steps.{Accepted}
+use Rattle.extents.proofs.Free.{accepted-file, fails, own-exactly}
 use Rattle.extents.proofs.Fit.{Fits, lowest-address, room-exactly}
-use Rattle.grid_changes.specs.Changes.{stretchesOf, changed, deleteRules, withoutGrid, gridWords, lowestEmpty, addressFor, addOwn, addRules, withGrid, added, addGrid}
+use Rattle.grid_changes.specs.Changes.{stretchesOf, tableRule, changed, deleteRules, withoutGrid, deleteGrid, gridWords, lowestEmpty, addressFor, addOwn, addRules, withGrid, added, addGrid}
 use Rattle.grid_changes.specs.declared.Added.{Added}
 use Rattle.grid_changes.proofs.Deleted.{Deletes, delete-passes, deleted-length, deleted-accepted, deleted-words, deleted-count, deleted-slot, deleted-behind}
 use Rattle.grid_changes.proofs.Addition.{AddAsked, AddPasses, add-passes, slot-empty}
@@ -89,13 +91,102 @@ changed-fault : {Value : Type 0} (v : Verdict) (value : ℕ → Value) (o : Orde
 changed-fault Pass value o f g t r = (λ e. gives-refuses e, λ e. fault-pass r (sym e))
 changed-fault (Fault s) value o f g t r = (λ e. ap Fault (refuses-same e), λ e. ap (λ (v : Verdict). changed v value o f g t .0) e)
 
--- the rules of the slot and the room, of their tests
-abbrev lastRules : Bool → Bool → List Rule
-lastRules slot room = rule slot 13 0 ∷ rule room 14 0 ∷ []
-
 -- a refusal at place 0
 abbrev refusal : ℕ → Refusal
 refusal number = record { number = number; place = 0 }
+
+-- ---- a table that is too short
+
+-- a rule that gives another number than 10
+abbrev NotTen : Rule → Type 0
+NotTen r = ¬ (r .number ≡ 10)
+
+-- the file's rules give other numbers
+slots-not-ten : (w : ℕ → ℕ) (n next k : ℕ) → Every NotTen (slotsRules w n next k)
+unfolding slotsRules slotRules ownRules headerRules sizeRules overlapRule
+slots-not-ten w n next zero = tt
+slots-not-ten w n next (suc k) =
+    every-both NotTen (slotsRules w n next k) (slotRules w n next k) (slots-not-ten w n next k)
+    (pick-cases (Every NotTen) (isEmpty w k) [] (ownRules w n next k ++ overlapRule w k ∷ []) (λ e. tt)
+    (λ e. (five, (five, (three, (three, (four, (four, (five, (five, tt))))))))))
+  where
+    three : ¬ (_≡_ {A = ℕ} 3 10)
+    three e = omega (arith, e)
+
+    four : ¬ (_≡_ {A = ℕ} 4 10)
+    four e = omega (arith, e)
+
+    five : ¬ (_≡_ {A = ℕ} 5 10)
+    five e = omega (arith, e)
+
+file-not-ten : (len : ℕ) (w : ℕ → ℕ) → Every NotTen (fileRules len w)
+unfolding fileRules headRules
+file-not-ten len w =
+    every-both NotTen (headRules len w) (slotsRules w (w 10) (nextFree w) (w 10))
+    (λ e. omega (arith, e), (λ e. omega (arith, e), (λ e. omega (arith, e), (λ e. omega (arith, e), (λ e. omega (arith, e), tt)))))
+    (slots-not-ten w (w 10) (nextFree w) (w 10))
+
+-- a table of rules none of which gives 10
+other-number : (rs : List Rule) → Every NotTen rs → ¬ (firstFault rs ≡ Fault (refusal 10))
+other-number rs other e = never-refused rs 0 10 0 other (ap (λ (v : Verdict). answered {Value = ℕ} v 0) e)
+
+-- the rules behind the first
+abbrev behindFirst : List Rule → List Rule
+behindFirst [] = []
+behindFirst (r ∷ rs) = rs
+
+-- where the rules behind that of the table give other numbers, 10 is given exactly where the file is accepted and the table has fewer than n + 1 pairs
+table-exactly : (o : Order) (f : List ℕ) (size : ℕ) (rest : List Rule) → Every NotTen rest
+    → (firstFault (fileRules (length f) (wordAt o f) ++ tableRule (wordAt o f) size ∷ rest) ≡ Fault (refusal 10)) ↔ (Accepted o f × (size < wordAt o f 10 + 1))
+unfolding firstFault judge first
+table-exactly o f size rest other = (λ e. step (firstFault file) refl (leb (wordAt o f 10 + 1) size) refl (sym (joined file own (firstFault file) refl) ∙ e), back)
+  where
+    file : List Rule
+    file = fileRules (length f) (wordAt o f)
+
+    own : List Rule
+    own = tableRule (wordAt o f) size ∷ rest
+
+    step : (v : Verdict) → firstFault file ≡ v → (t : Bool) → leb (wordAt o f 10 + 1) size ≡ t → first v (first (judge (rule t 10 0)) (firstFault rest)) ≡ Fault (refusal 10)
+        → Accepted o f × (size < wordAt o f 10 + 1)
+    step (Fault r) is t long e = absurd (other-number file (file-not-ten (length f) (wordAt o f)) (is ∙ e))
+    step Pass is true long e = absurd (other-number rest other e)
+    step Pass is false long e = (is, leb-false (wordAt o f 10 + 1) size long)
+
+    back : Accepted o f × (size < wordAt o f 10 + 1) → firstFault (file ++ own) ≡ Fault (refusal 10)
+    back h = sym (pass-joined file own (h .0)) ∙ rw (lt-leb (wordAt o f 10 + 1) size (h .1))
+
+-- "10 for a table of fewer than n+1 pairs", of deleting
+pub delete-refuses-10 : (o : Order) (f : List ℕ) (number : ℕ) (t : List Extent)
+    → (deleteGrid o f number t .0 ≡ refuses 10 0) ↔ (Accepted o f × (length t < wordAt o f 10 + 1))
+unfolding deleteGrid deleteRules wantedRules
+delete-refuses-10 o f number t =
+    let x = changed-fault (firstFault (deleteRules o f number (length t))) (λ count. count) o f (withoutGrid o f number) t (refusal 10) in
+    let y = table-exactly o f (length t) (wantedRules (wordAt o f) number) (λ e. omega (arith, e), (λ e. omega (arith, e), tt)) in
+    (λ e. y .0 (x .0 e), λ h. x .1 (y .1 h))
+
+-- of adding
+pub add-refuses-10 : (o : Order) (f header : List ℕ) (rows columns : ℕ) (values : List ℤ) (t : List Extent)
+    → (addGrid o f header rows columns values t .0 ≡ refuses 10 0) ↔ (Accepted o f × (length t < wordAt o f 10 + 1))
+unfolding addGrid addRules
+add-refuses-10 o f header rows columns values t =
+    let x =
+        changed-fault (firstFault (addRules o f (length header) rows columns (length values) (length t))) (added o f rows columns) o f
+        (withGrid o f header rows columns values) t (refusal 10) in
+    let y =
+        table-exactly o f (length t) (behindFirst (addOwn o f (length header) rows columns (length values) (length t)))
+        (λ e. omega (arith, e), (λ e. omega (arith, e), (λ e. omega (arith, e), (λ e. omega (arith, e), (λ e. omega (arith, e), (λ e. omega (arith, e), tt)))))) in
+    (λ e. y .0 (x .0 e), λ h. x .1 (y .1 h))
+
+-- so a table of 1,025 pairs is long enough for every file
+pub long-table : (o : Order) (f : List ℕ) (size : ℕ) → 1025 ≤ size → ¬ (Accepted o f × (size < wordAt o f 10 + 1))
+long-table o f size l h = omega (arith, l, h .1, accepted-file o f (h .0) .head .grids .1)
+
+-- ---- no empty slot, and no room
+
+-- the rules of the slot and the room, of their tests
+abbrev lastRules : Bool → Bool → List Rule
+lastRules slot room = rule slot 13 0 ∷ rule room 14 0 ∷ []
 
 -- the number of a fault
 abbrev faultNumber : Verdict → ℕ

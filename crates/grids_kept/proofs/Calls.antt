@@ -15,7 +15,7 @@ use Rattle.grid_rules.specs.declared.GridLayout.{GridLayout}
 use Rattle.extents.specs.declared.Extent.{Extent}
 use Rattle.grid_changes.specs.Changes.{stretchesOf, changed, deleteRules, withoutGrid, deleteGrid, addRules, withGrid, added, addGrid}
 use Rattle.grid_changes.specs.declared.Added.{Added}
-use Rattle.grids_kept.specs.Kept.{AsBefore, IsRefused, ReadsBack, Deletion, newLayout, Addition, GridsKept}
+use Rattle.grids_kept.specs.Kept.{AsBefore, IsRefused, ReadsBack, AfterDeleting, newLayout, AfterAdding, GridsKept}
 use Rattle.grids_kept.proofs.Kept.{kept}
 use Rattle.grids_kept.proofs.Others.{deleted-keeps, deleted-stale, stale-refused, added-keeps}
 use Rattle.grids_kept.proofs.Back.{added-back}
@@ -44,7 +44,7 @@ module _ {Value : Type 0} (value : ℕ → Value) (o : Order) (f g : List ℕ) (
       }
 
 -- deleting a grid leaves every other one as before, and its own layouts are refused
-pub deletion : (o : Order) (f : List ℕ) (number : ℕ) (t : List Extent) → Deletion o f number t
+pub deletion : (o : Order) (f : List ℕ) (number : ℕ) (t : List Extent) → AfterDeleting o f number t
 unfolding deleteGrid
 deletion o f number t =
     let g : List ℕ = withoutGrid o f number in
@@ -59,7 +59,7 @@ deletion o f number t =
 
 -- adding a grid leaves every other one as before, and it reads back
 pub addition : (o : Order) (f header : List ℕ) (rows columns : ℕ) (values : List ℤ) (t : List Extent)
-    → Addition o f header rows columns values t
+    → AfterAdding o f header rows columns values t
 unfolding addGrid
 addition o f header rows columns values t =
     let g : List ℕ = withGrid o f header rows columns values in

@@ -81,7 +81,7 @@ pub record ReadsBack (header : List ℕ) (values : List ℤ) (g : List ℕ) (l :
 -- ---- the two calls
 
 -- deleting the grid of a number, of a file and a table, in a byte order
-pub record Deletion (o : Order) (f : List ℕ) (number : ℕ) (t : List Extent) : Type 0 where
+pub record AfterDeleting (o : Order) (f : List ℕ) (number : ℕ) (t : List Extent) : Type 0 where
   -- whether it is deleted or refused, every layout but those of that grid is judged, and reads, as before
   pub others : (l : GridLayout) → ¬ IsOf o number l → AsBefore f (deleteGrid o f number t .1 .0) l
   -- where it is deleted, every layout of that grid is refused
@@ -93,7 +93,7 @@ newLayout o f a rows columns =
     record { order = o; length = length f; number = a .number; offset = a .address; rows = rows; columns = columns }
 
 -- adding a grid of a header, of rows and columns, and of values by columns, to a file and a table, in a byte order
-pub record Addition (o : Order) (f header : List ℕ) (rows columns : ℕ) (values : List ℤ) (t : List Extent) : Type 0 where
+pub record AfterAdding (o : Order) (f header : List ℕ) (rows columns : ℕ) (values : List ℤ) (t : List Extent) : Type 0 where
   -- whether it is added or refused, every layout but those of the number that is answered is judged, and reads, as before
   pub others : (l : GridLayout) → ((a : Added) → addGrid o f header rows columns values t .0 ≡ gives a → ¬ IsOf o (a .number) l)
       → AsBefore f (addGrid o f header rows columns values t .1 .0) l
@@ -104,6 +104,6 @@ pub record Addition (o : Order) (f header : List ℕ) (rows columns : ℕ) (valu
 -- that deleting and adding do so, of every file
 pub record GridsKept : Type 0 where
   -- deleting
-  pub deletion : (o : Order) (f : List ℕ) (number : ℕ) (t : List Extent) → Deletion o f number t
+  pub deletion : (o : Order) (f : List ℕ) (number : ℕ) (t : List Extent) → AfterDeleting o f number t
   -- adding
-  pub addition : (o : Order) (f header : List ℕ) (rows columns : ℕ) (values : List ℤ) (t : List Extent) → Addition o f header rows columns values t
+  pub addition : (o : Order) (f header : List ℕ) (rows columns : ℕ) (values : List ℤ) (t : List Extent) → AfterAdding o f header rows columns values t
