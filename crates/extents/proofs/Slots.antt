@@ -143,7 +143,8 @@ module _ (w : ℕ → ℕ) where
       hasnt : both (leb (slotExtent w k .start) p) (ltb p (endOf (slotExtent w k))) ≡ false → ¬ (SlotHas k p)
       hasnt e h =
           false≢true
-          (sym e ∙ true-both (leb (slotExtent w k .start) p) (ltb p (endOf (slotExtent w k))) (le-leb (slotExtent w k .start) p (h .0)) (lt-ltb p (endOf (slotExtent w k)) (h .1)))
+          (sym e ∙ true-both (leb (slotExtent w k .start) p) (ltb p (endOf (slotExtent w k))) (le-leb (slotExtent w k .start) p (h .0))
+          (lt-ltb p (endOf (slotExtent w k)) (h .1)))
 
       step : (t : Bool) → both (leb (slotExtent w k .start) p) (ltb p (endOf (slotExtent w k))) ≡ t → Past p k (pastGrid w p k)
           → Past p (suc k) (pick t (endOf (slotExtent w k)) (pastGrid w p k))
@@ -234,7 +235,8 @@ module _ (w : ℕ → ℕ) where
               let a : both (leb p (e .start)) (ltb (e .start) (nextGrid w whole p k)) ≡ true =
               true-both (leb p (e .start)) (ltb (e .start) (nextGrid w whole p k)) (le-leb p (e .start) im) (lt-ltb (e .start) (nextGrid w whole p k) lt) in
               absurd
-              (false≢true (sym eq ∙ true-both (ltb 0 (e .length)) (both (leb p (e .start)) (ltb (e .start) (nextGrid w whole p k))) (lt-ltb 0 (e .length) (omega (arith, ih .0, ih .1))) a))
+              (false≢true (sym eq ∙ true-both (ltb 0 (e .length)) (both (leb p (e .start)) (ltb (e .start) (nextGrid w whole p k)))
+              (lt-ltb 0 (e .length) (omega (arith, ih .0, ih .1))) a))
 
   -- from a free word on, or from the end of the file, the next start is the lowest word that a grid has
   pub next-lowest : (whole p : ℕ) → p ≤ whole → (p < whole → isFree w p ≡ true) → nextGrid w whole p (w 10) ≡ lowestTaken w whole p

@@ -42,17 +42,19 @@ abbrev pub Filling : {M : Type 1} (𝓤 : URA M) (H : Heap 𝓤) (A : Atoms 𝓤
 Filling 𝓤 H A mem runs = Contracted 𝓤 H A fill.ended (fill.clauses 𝓤 H A mem runs)
 
 module _ (ℓ ℓ′ : Lifetime) (κ κ′ : Lft) (q q′ : Share) (table : RefT (List Extent)) (file : RefT (List ℕ)) (tv fv : Val) where
-  -- the table and the file, as they are held
+  -- the table, as it is held
   abbrev pub Table : List Extent → Fml
   Table = Holds X.the-row ℓ κ q table tv
 
+  -- the file, as it is held
   abbrev pub File : List ℕ → Fml
   File = Holds u8 ℓ′ κ′ q′ file fv
 
   module _ {M : Type 1} (𝓤 : URA M) (H : Heap 𝓤) (A : Atoms 𝓤) (W : Given 𝓤 H A) (C : Calls 𝓤 H) (fm : FmC 𝓤 H (W .laws) C) (t : List Extent) (f : List ℕ)
       (mem : Memory → SProp 𝓤) (runs : Routine → Fun 𝓤) (o : Order) (n : ℕ) where
     -- n places are filled, and the file is one from which they can be
-    pub fills : Triple 𝓤 (C #fill) (Filling 𝓤 H A mem runs) → Is O.the-row o (order-value o ∷ []) → Is usize n (vint w64 n ∷ []) → (n ≤ length t) × (0 < n → Accepted o f)
+    pub fills : Triple 𝓤 (C #fill) (Filling 𝓤 H A mem runs) → Is O.the-row o (order-value o ∷ []) → Is usize n (vint w64 n ∷ [])
+        → (n ≤ length t) × (0 < n → Accepted o f)
         → ent 𝓤 (⋆ 𝓤 H A (‵ (Table t) ∷ ‵ (File f) ∷ []))
         (H .⇛ (C #fill (tv ∷ fv ∷ order-value o ∷ vint w64 n ∷ []) (Yields 𝓤 H Nothing
         (λ _. ex 𝓤 (λ (zs : List Extent). guard 𝓤 (zs ≡ runsOver o f n t) (sep 𝓤 (sem 𝓤 H A (Table zs)) (sem 𝓤 H A (File f))))))))

@@ -286,14 +286,13 @@ pub fn add_at(
             write_number(order, 4, file, 4 * (10 + plan.number as usize), at as u32);
             set_next_free(file, order);
             let stretches = survey_free(file, order);
-            let count = stretches.count;
             Addition {
                 answer: AddAnswer::Done(Added {
                     number: plan.number,
                     address: at,
-                    stretches: count,
+                    stretches: stretches.count,
                 }),
-                count: count,
+                count: stretches.count,
             }
         }
     }

@@ -1,4 +1,5 @@
--- A call through a reader, and the call that it stands on. The one takes a reader, and the other the reader's file and its layout; what else they take, and what they give, is the same.
+-- A call through a reader, and the call that it stands on. The one takes a reader, and the other the reader's file and its layout; what else they take, and what they
+-- give, is the same.
 --     through c        the contract of the call through a reader, where c is that of the call that it stands on: c, of the reader's file and of its layout
 --     Opens, opens     what is to be shown of a function's code that takes a reader apart and calls; and with that the function meets `through c`, where the callee meets c
 --     opened           the same of the machine's own tables, where the callee is proved
@@ -85,28 +86,35 @@ module _ {M : Type 1} (𝓤 : URA M) (H : Heap 𝓤) (A : Atoms 𝓤) {m : ℕ} 
   module _ (W : Given 𝓤 H A) (c : Clauses 𝓤 (Apart ks r)) where
     -- what a reader owns is what its file and its layout own
     apart : (κs : Lfts (suc m)) (qs : Shares (suc m)) (d : Reader) (a : Denots (rows κs ks)) (us : Valss (rows κs ks))
-        → ent 𝓤 (onEntry 𝓤 H A (Whole ks r .signature) κs qs (d, a) (value (κs .0) d ∷ [], us)) (onEntry 𝓤 H A (Apart ks r .signature) κs qs (d .file, (d .layout, a)) (slice-vals (d .file), (layout-vals (d .layout), us)))
+        → ent 𝓤 (onEntry 𝓤 H A (Whole ks r .signature) κs qs (d, a) (value (κs .0) d ∷ [], us))
+        (onEntry 𝓤 H A (Apart ks r .signature) κs qs (d .file, (d .layout, a)) (slice-vals (d .file), (layout-vals (d .layout), us)))
     apart κs qs d a us =
         let κ = κs .0 in
         qed W (raw (toks 𝓤 A (suc m) κs qs) ∷ ‵ (owns (rows κs (a-reader ∷ ks)) (d, a) (value κ d ∷ [], us)) ∷ []) ∵ frame ! $ fsplit ! $
-        use1 W (given (value κ d ∷ [] ≡ value κ d ∷ []) (‵ (all-own (D κ .parts) (L κ) (d .file, (d .layout, tt))))) (own-open 𝓤 H A W (D κ) (L κ) (d .file, (d .layout, tt)) (value κ d)) $
+        use1 W (given (value κ d ∷ [] ≡ value κ d ∷ []) (‵ (all-own (D κ .parts) (L κ) (d .file, (d .layout, tt)))))
+        (own-open 𝓤 H A W (D κ) (L κ) (d .file, (d .layout, tt)) (value κ d)) $
         learn ! (λ _. fsplit ! $ move ! (1 ∷ []) $ fsplit ! $ move ! (1 ∷ []) $ drop ! $
         -- [what the layout owns; what the file owns; what the rest owns]
         move ! (0 ∷ 2 ∷ []) $ fjoin ! $ move ! (1 ∷ 0 ∷ []) $ fjoin ! $ done !)
 
     module _ (κs : Lfts (suc m)) (a : Args (Whole ks r .signature) κs) (g : through c κs a .ghost) (x : r .slot .row κs .Denot) where
       abbrev pub OfFields : Lasts (Apart ks r) κs (fields ks r κs a) → SProp 𝓤
-      OfFields ws = sep 𝓤 (sem 𝓤 H A (lasts (Apart ks r) κs (fields ks r κs a) ws)) (c κs (fields ks r κs a) .ensures g x (atExit (Apart ks r) κs (fields ks r κs a) ws))
+      OfFields ws = sep 𝓤 (sem 𝓤 H A (lasts (Apart ks r) κs (fields ks r κs a) ws))
+          (c κs (fields ks r κs a) .ensures g x (atExit (Apart ks r) κs (fields ks r κs a) ws))
 
       abbrev pub OfReader : Lasts (Whole ks r) κs a → SProp 𝓤
       OfReader ws = sep 𝓤 (sem 𝓤 H A (lasts (Whole ks r) κs a ws)) (through c κs a .ensures g x (atExit (Whole ks r) κs a ws))
 
       -- what is said at exit with the file and the layout is what is said with the reader
       said-whole : ent 𝓤 (ex 𝓤 OfFields) (ex 𝓤 OfReader)
-      said-whole = exE 𝓤 OfFields (λ ws. via 𝓤 (OfReader (tt, ws .1 .1)) (qed W (‵ (lasts (Apart ks r) κs (fields ks r κs a) ws) ∷ raw (c κs (fields ks r κs a) .ensures g x (atExit (Apart ks r) κs (fields ks r κs a) ws)) ∷ []) ∵ fsplit ! $ drop ! $ done !) (exI 𝓤 OfReader (tt, ws .1 .1)))
+      said-whole = exE 𝓤 OfFields (λ ws. via 𝓤 (OfReader (tt, ws .1 .1))
+          (qed W (‵ (lasts (Apart ks r) κs (fields ks r κs a) ws) ∷ raw (c κs (fields ks r κs a) .ensures g x (atExit (Apart ks r) κs (fields ks r κs a) ws)) ∷ []) ∵
+          fsplit ! $ drop ! $ done !) (exI 𝓤 OfReader (tt, ws .1 .1)))
 
       pub said-apart : ent 𝓤 (ex 𝓤 OfReader) (ex 𝓤 OfFields)
-      said-apart = exE 𝓤 OfReader (λ ws. via 𝓤 (OfFields (tt, (tt, ws .1))) (qed W (‵ (lasts (Whole ks r) κs a ws) ∷ raw (through c κs a .ensures g x (atExit (Whole ks r) κs a ws)) ∷ []) ∵ nothing ! $ fjoin ! $ done !) (exI 𝓤 OfFields (tt, (tt, ws .1))))
+      said-apart = exE 𝓤 OfReader (λ ws. via 𝓤 (OfFields (tt, (tt, ws .1)))
+          (qed W (‵ (lasts (Whole ks r) κs a ws) ∷ raw (through c κs a .ensures g x (atExit (Whole ks r) κs a ws)) ∷ []) ∵ nothing ! $ fjoin ! $
+          done !) (exI 𝓤 OfFields (tt, (tt, ws .1))))
 
     pub opens : (callee run : Fun 𝓤) → Opens callee run → Triple 𝓤 callee (Contracted 𝓤 H A (Apart ks r) c) → Triple 𝓤 run (Contracted 𝓤 H A (Whole ks r) (through c))
     opens callee run walk known = entering 𝓤 H A (Whole ks r) (through c) (λ κs. spells κs (a-reader ∷ ks)) (λ κs. tells κs (a-reader ∷ ks)) run (λ x g are.
@@ -121,7 +129,8 @@ module _ {M : Type 1} (𝓤 : URA M) (H : Heap 𝓤) (A : Atoms 𝓤) {m : ℕ} 
         (Contracted 𝓤 H A (Apart ks r) c .post to) _ (hands-on 𝓤 H A W (suc m) κs (x .1) (r .slot .row κs) (r .lawful 𝓤 H A W κs) _ _ (said-whole κs a g)))))
 
 -- the same of the machine's own tables: a function whose code is so walked meets its contract, by the callee's theorem
-module _ {M : Type 1} (𝓤 : URA M) (H : Heap 𝓤) (𝓜 : Model 𝓤 H) (𝓖 : GhostRules 𝓤 H) (𝓡 : Running 𝓤 H 𝓜) {m : ℕ} (ks : List (Known (suc m))) (r : Known (suc m)) (γ : Env) (c : Clauses 𝓤 (Apart ks r)) where
+module _ {M : Type 1} (𝓤 : URA M) (H : Heap 𝓤) (𝓜 : Model 𝓤 H) (𝓖 : GhostRules 𝓤 H) (𝓡 : Running 𝓤 H 𝓜) {m : ℕ} (ks : List (Known (suc m))) (r : Known (suc m))
+    (γ : Env) (c : Clauses 𝓤 (Apart ks r)) where
   abbrev Through : Clauses 𝓤 (Whole ks r)
   Through = through 𝓤 H (𝓖 .A) ks r c
 

@@ -1,7 +1,8 @@
 -- A reader that is made, and one that is made and passed on.
 --     made             the contract of the function that makes a reader
 --     Shuts, shuts     what is to be shown of a function's code that makes a reader; and with that the function meets `made`
---     Passes, passes   what is to be shown of a function's code that has a reader made and passes it on; and with that the function meets c, where the callee meets `through c` (`Calls.antt`)
+--     Passes, passes   what is to be shown of a function's code that has a reader made and passes it on; and with that the function
+--                      meets c, where the callee meets `through c` (`Calls.antt`)
 --     shut, passed     the same of the machine's own tables, where the callees are proved
 -- Assumes nothing.
 use mathlib.Core.Path.{_≡_, refl}
@@ -17,7 +18,8 @@ use prog.Wp.{Heap, Calls, Loops, WpFn, Closed}
 use ghost.Atoms.{Atoms, sem}
 use sound.Laws.{ofModel}
 use sound.WpLaws.{FmC, fmOf}
-use types.Kit.{Given, ‵, raw, _⊛_, some, later, _$_, _∵_, !, qed, move, rewrite, use1, split, join, pick, fsplit, fjoin, suffices, frame, await, updating, now as at-once, check, show, done}
+use types.Kit.{Given, ‵, raw, _⊛_, some, later, _$_, _∵_, !, qed, move, rewrite, use1, split, join, pick, fsplit, fjoin, suffices, frame, await, updating}
+use types.Kit.{now as at-once, check, show, done}
 use contract.Lifetimes.{Lfts, Shares, toks}
 use contract.Monad.{Fun, fact}
 use contract.Running.{Running, GhostRules, givenOf, tables, tablesOf}
@@ -66,8 +68,10 @@ module _ {M : Type 1} (𝓤 : URA M) (H : Heap 𝓤) (A : Atoms 𝓤) where
         let d : Reader = record { file = a .0; layout = a .1 .0 } in
         via 𝓤 (Contracted 𝓤 H A Made made .post ((κs, qs, tt, a, (slice-vals (a .0), (layout-vals (a .1 .0), tt))), g) (value κ d))
         (qed W ((raw (toks 𝓤 A 1 κs qs) ⊛ ‵ (all-own (D κ .parts) (L κ) (d .file, (d .layout, tt)))) ∷ ‵ ftrue ∷ []) ∵
-        suffices ! _ (W .laws .⇛-intro _) $ show ! (λ (z : Reader). sep 𝓤 (sep 𝓤 (toks 𝓤 A 1 κs qs) (sem 𝓤 H A (B κ .own z (value κ d ∷ [])))) (ensured 𝓤 H A Made made κs a g z)) d $
-        split ! $ move ! (1 ∷ []) $ use1 W (‵ (B κ .own d (value κ d ∷ []))) (own-shut 𝓤 H A W (D κ) (L κ) (d .file, (d .layout, tt))) $ move ! (1 ∷ 0 ∷ []) $ join ! $ frame ! $
+        suffices ! _ (W .laws .⇛-intro _) $ show ! (λ (z : Reader). sep 𝓤 (sep 𝓤 (toks 𝓤 A 1 κs qs) (sem 𝓤 H A (B κ .own z (value κ d ∷ []))))
+        (ensured 𝓤 H A Made made κs a g z)) d $
+        split ! $ move ! (1 ∷ []) $ use1 W (‵ (B κ .own d (value κ d ∷ []))) (own-shut 𝓤 H A W (D κ) (L κ) (d .file, (d .layout, tt))) $ move ! (1 ∷ 0 ∷ []) $ join ! $
+        frame ! $
         show ! (λ (ws : Lasts Made κs a). sep 𝓤 (sem 𝓤 H A (lasts Made κs a ws)) (fact 𝓤 (d ≡ d))) (tt, (tt, tt)) $
         says ! refl $ nothing ! $ fjoin ! $ nothing ! $ fjoin ! $ done !)
         (walk κs d (typed {n = 1} κs 𝓤 H A W (a-reader ∷ two) (d, a) (LL.owes (D κ) (L κ) d (are .0, (are .1 .0, tt)), are)) _))
@@ -114,9 +118,12 @@ module _ {M : Type 1} (𝓤 : URA M) (H : Heap 𝓤) (A : Atoms 𝓤) (ks : List
       passes-on : (w : Val) → ent 𝓤 (sep 𝓤 (Contracted 𝓤 H A Made (made 𝓤 H A) .post to-maker w) Rest)
           (H .⇛ (guard 𝓤 (Typed (Local κ .mir) (w ∷ [])) (callee (w ∷ passed-as κs ks (a .1 .1)) (Contracted 𝓤 H A (Whole ks r) (through 𝓤 H A ks r c) .post (to w)))))
       passes-on w =
-          qed W (later (some (λ (x : Reader). (raw (toks 𝓤 A 1 κs qs) ⊛ ‵ (B κ .own x (w ∷ []))) ⊛ raw (ensured 𝓤 H A Made (made 𝓤 H A) κs (a .0, (a .1 .0, tt)) tt x))) ∷
-          (‵ (owns (rows κs ks) (a .1 .1) (valss (rows κs ks) (spells κs ks) (a .1 .1))) ⊛ raw (c κs a .requires g)) ∷ []) ∵ updating ! $ await ! tt $ pick ! (λ x. split ! $ move ! (1 ∷ []) $
-          use1 W (raw (fact 𝓤 (x ≡ d))) (made-says x) $ heard ! (x ≡ d) (λ eq. split ! $ move ! (1 ∷ []) $ peeks ! (B κ) (Is (B κ)) (shows 𝓤 H A (B κ)) x (w ∷ []) (λ is. at-once ! $
+          qed W (later (some (λ (x : Reader). (raw (toks 𝓤 A 1 κs qs) ⊛ ‵ (B κ .own x (w ∷ []))) ⊛ raw
+          (ensured 𝓤 H A Made (made 𝓤 H A) κs (a .0, (a .1 .0, tt)) tt x))) ∷
+          (‵ (owns (rows κs ks) (a .1 .1) (valss (rows κs ks) (spells κs ks) (a .1 .1))) ⊛ raw (c κs a .requires g)) ∷ []) ∵ updating ! $ await ! tt $ pick ! (λ x.
+          split ! $ move ! (1 ∷ []) $
+          use1 W (raw (fact 𝓤 (x ≡ d))) (made-says x) $ heard ! (x ≡ d) (λ eq. split ! $ move ! (1 ∷ []) $
+          peeks ! (B κ) (Is (B κ)) (shows 𝓤 H A (B κ)) x (w ∷ []) (λ is. at-once ! $
           check ! (LL.lawful (T.the-type (record { mir = erased; lft = κ })) (T′.the-laws (record { mir = erased; lft = κ })) 𝓤 H A W .typed x (w ∷ []) is) $
           rewrite ! 0 (λ (z : Reader). ‵ (B κ .own z (w ∷ []))) eq refl $ suffices ! _ (met (to w)) $
           -- [what the reader owns; the token; what the rest owns, and what is required]
@@ -127,11 +134,15 @@ module _ {M : Type 1} (𝓤 : URA M) (H : Heap 𝓤) (A : Atoms 𝓤) (ks : List
         let κs = x .0 in
         let qs = x .1 in
         let a = x .3 in
-        via 𝓤 (maker (Contracted 𝓤 H A Made (made 𝓤 H A) .args (to-maker κs qs a g)) (λ w. sep 𝓤 (Contracted 𝓤 H A Made (made 𝓤 H A) .post (to-maker κs qs a g) w) (Rest κs qs a g)))
+        via 𝓤 (maker (Contracted 𝓤 H A Made (made 𝓤 H A) .args (to-maker κs qs a g)) (λ w.
+        sep 𝓤 (Contracted 𝓤 H A Made (made 𝓤 H A) .post (to-maker κs qs a g) w) (Rest κs qs a g)))
         (via 𝓤 (sep 𝓤 (Contracted 𝓤 H A Made (made 𝓤 H A) .pre (to-maker κs qs a g)) (Rest κs qs a g))
-        (qed W ((raw (toks 𝓤 A 1 κs qs) ⊛ ‵ (owns (rows κs (bytes ∷ layout ∷ ks)) a (valss (rows κs (bytes ∷ layout ∷ ks)) (spells κs (bytes ∷ layout ∷ ks)) a))) ∷ raw (c κs a .requires g) ∷ []) ∵
-        split ! $ move ! (1 ∷ []) $ fsplit ! $ move ! (1 ∷ []) $ fsplit ! $ nothing ! $ move ! (1 ∷ 0 ∷ []) $ fjoin ! $ move ! (2 ∷ 0 ∷ []) $ fjoin ! $ move ! (2 ∷ 0 ∷ []) $ join ! $ nothing ! $ move ! (1 ∷ 0 ∷ []) $ join ! $ frame ! $ done !)
-        (via 𝓤 (sep 𝓤 (maker (Contracted 𝓤 H A Made (made 𝓤 H A) .args (to-maker κs qs a g)) (Contracted 𝓤 H A Made (made 𝓤 H A) .post (to-maker κs qs a g))) (Rest κs qs a g)) (monoL 𝓤 (Rest κs qs a g) (met-made (to-maker κs qs a g)))
+        (qed W ((raw (toks 𝓤 A 1 κs qs) ⊛ ‵ (owns (rows κs (bytes ∷ layout ∷ ks)) a (valss (rows κs (bytes ∷ layout ∷ ks)) (spells κs (bytes ∷ layout ∷ ks)) a))) ∷ raw
+        (c κs a .requires g) ∷ []) ∵
+        split ! $ move ! (1 ∷ []) $ fsplit ! $ move ! (1 ∷ []) $ fsplit ! $ nothing ! $ move ! (1 ∷ 0 ∷ []) $ fjoin ! $ move ! (2 ∷ 0 ∷ []) $ fjoin ! $
+        move ! (2 ∷ 0 ∷ []) $ join ! $ nothing ! $ move ! (1 ∷ 0 ∷ []) $ join ! $ frame ! $ done !)
+        (via 𝓤 (sep 𝓤 (maker (Contracted 𝓤 H A Made (made 𝓤 H A) .args (to-maker κs qs a g)) (Contracted 𝓤 H A Made (made 𝓤 H A) .post (to-maker κs qs a g)))
+        (Rest κs qs a g)) (monoL 𝓤 (Rest κs qs a g) (met-made (to-maker κs qs a g)))
         (fm _ _ _ (Rest κs qs a g) (λ w. id⊢ 𝓤 _))))
         (walk κs a (typed κs 𝓤 H A W (bytes ∷ layout ∷ ks) a are) _ _ _ (passes-on κs qs a g)
         (hands-on 𝓤 H A W 1 κs qs (r .slot .row κs) (r .lawful 𝓤 H A W κs) _ _ (said-apart 𝓤 H A ks r W c κs (d κs qs a g, a .1 .1) g))))
@@ -161,5 +172,6 @@ module _ {M : Type 1} (𝓤 : URA M) (H : Heap 𝓤) (𝓜 : Model 𝓤 H) (𝓖
   passed ks r c E implies j s is-maker met-made f t is met k e closed walk =
       let fm = fmOf 𝓤 H (ofModel 𝓤 H 𝓜) (tablesOf 𝓤 H 𝓜 (tables 𝓤 H 𝓜 𝓡 γ)) in
       follows 𝓤 H (𝓖 .A) (Apart ks r) c (givenOf 𝓤 H 𝓜 𝓖) E implies (C k) (fm k) (entered 𝓤 H (Contracted 𝓤 H (𝓖 .A) (Apart ks r) c) C Λ k e closed
-      (passes 𝓤 H (𝓖 .A) ks r (givenOf 𝓤 H 𝓜 𝓖) c (C j) (C f) (WpFn 𝓤 H C Λ e) (fm j) (cited 𝓤 H (Contracted 𝓤 H (𝓖 .A) Made (made 𝓤 H (𝓖 .A))) 𝓜 𝓡 γ j s is-maker met-made)
+      (passes 𝓤 H (𝓖 .A) ks r (givenOf 𝓤 H 𝓜 𝓖) c (C j) (C f) (WpFn 𝓤 H C Λ e) (fm j)
+      (cited 𝓤 H (Contracted 𝓤 H (𝓖 .A) Made (made 𝓤 H (𝓖 .A))) 𝓜 𝓡 γ j s is-maker met-made)
       (cited 𝓤 H (Contracted 𝓤 H (𝓖 .A) (Whole ks r) (through 𝓤 H (𝓖 .A) ks r c)) 𝓜 𝓡 γ f t is met) (walk C Λ fm)))

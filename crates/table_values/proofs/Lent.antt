@@ -116,7 +116,8 @@ module _ {M : Type 1} (𝓤 : URA M) (H : Heap 𝓤) (A : Atoms 𝓤) (W : Given
         owned ! Table (Is Table) (array-makes 𝓤 H A W X.the-row (LL.makes X.the-type X′.the-plain 𝓤 H A) places) fresh _ fresh-is $ move ! (1 ∷ 0 ∷ []) $ fjoin ! $
         fpack ! (List Val) (λ vs. fsep (cellAt fullShare (τ ∷ []) vs b 0) (Table .own fresh vs)) (fresh-val ∷ []) $
         -- the array is its elements side by side
-        use1 W (‵ (arr-parts (shares X.the-row) places .part fullShare fresh b 0)) (array-apart 𝓤 H A W X.the-row fullShare tt places fresh b 0) $ fsplit ! $ feqL ! (λ e.
+        use1 W (‵ (arr-parts (shares X.the-row) places .part fullShare fresh b 0)) (array-apart 𝓤 H A W X.the-row fullShare tt places fresh b 0) $ fsplit ! $
+        feqL ! (λ e.
         use1 W (‵ (cells (mem X.the-row) fresh b 0)) (whole-in 𝓤 H A W X.the-row fresh b 0) $
         use1 W (later (some (λ (γ : GName).
         ‵ (MutSlice ℓ κ X.the-row .own (lent-at b γ fresh) (sliceVal (b, 0) (length fresh) ∷ [])) ⊛ ‵ (flent κ (Held X.the-row (length fresh) b 0 γ)))))

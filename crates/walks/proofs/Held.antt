@@ -36,9 +36,11 @@ module _ (R : RattleType) (ℓ : Lifetime) (κ : Lft) (q : Share) (x : RefT (Lis
   abbrev pub under : GName → List (R .Denot) → RefT (List (R .Denot))
   under δ ys = record { ptr = x .ptr; name = δ; now = ys }
 
+  -- what the function has of it, at the list ys
   abbrev pub Holds : List (R .Denot) → Fml
   Holds ys = fsep (MutSlice ℓ κ R .own (at-last x ys) (v ∷ [])) (flft κ q)
 
+  -- what is kept while it is lent as `&mut`
   abbrev pub Lent : ℕ → GName → List (R .Denot) → Fml
   Lent ν δ ys = fsep (at-slice R (at-last x ys) (v ∷ [])) (LentAgain R κ (ν ∷ []) q (x .name) (x .ptr .0) (x .ptr .1) δ ys)
 
@@ -46,16 +48,19 @@ module _ (R : RattleType) (ℓ : Lifetime) (κ : Lft) (q : Share) (x : RefT (Lis
   abbrev Part : List (R .Denot) → Fml
   Part ys = arr-parts (shares-of R) (length ys) .part fullShare ys (x .ptr .0) (x .ptr .1)
 
+  -- what is kept while it is lent as `&`
   abbrev pub Shared : ℕ → List (R .Denot) → Fml
   Shared μ ys = fsep (at-slice R (at-last x ys) (v ∷ [])) (fsep (flent (μ ∷ []) (Part ys)) (fsep (fobor κ q (Held R (length ys) (x .ptr .0) (x .ptr .1) (x .name)))
       (fsep (fobs (x .name) (codedHoleys R .code (heres R ys))) (fauth (x .name) (codedHoleys R .code (heres R ys))))))
 
   module _ {M : Type 1} {𝓤 : URA M} {H : Heap 𝓤} {A : Atoms 𝓤} {K : Type 0} {W : Given 𝓤 H A} {Γ : List (Item 𝓤)} {G : Goal 𝓤 H} where
+    -- it is taken apart, and its length is learned
     pub counts : K → (ys : List (R .Denot)) → Is (MutSlice ℓ κ R) x (v ∷ [])
         → (length ys ≡ length (x .now) → Seq K W (‵ (MutSlice ℓ κ R .own (at-last x ys) (v ∷ [])) ∷ ‵ (flft κ q) ∷ Γ) G) → Seq K W (‵ (Holds ys) ∷ Γ) G
     counts t ys at-entry k = fsplit t $ peeks t (MutSlice ℓ κ R) (Is (MutSlice ℓ κ R)) (shows 𝓤 H A (MutSlice ℓ κ R)) (at-last x ys) (v ∷ [])
         (λ is. k (ap (λ (z : (ℕ × ℕ) × ℕ). z .1) (mut-slice-fixes ℓ κ R (at-last x ys) x (v ∷ []) is at-entry)))
 
+    -- it is lent as `&mut`
     pub lends : K → Soaks G → (ℓ′ : Lifetime) (ys : List (R .Denot))
         → ((ν : ℕ) (δ : GName) → Seq K W (‵ (MutSlice ℓ′ (ν ∷ []) R .own (under δ ys) (v ∷ [])) ∷ ‵ (flft (ν ∷ []) fullShare) ∷ ‵ (Lent ν δ ys) ∷ Γ) G)
         → Seq K W (‵ (Holds ys) ∷ Γ) G
@@ -68,6 +73,7 @@ module _ (R : RattleType) (ℓ : Lifetime) (κ : Lft) (q : Share) (x : RefT (Lis
         -- [the slice, lent; what is kept of it; ν's token; …]
         move t (1 ∷ []) $ pureI t (at-slice R (at-last x ys) (v ∷ [])) (tt, (tt, tt)) (is .0) $ fjoin t $ move t (1 ∷ 2 ∷ 0 ∷ []) $ k ν δ)))
 
+    -- it comes back, at zs
     pub comes-home : K → Soaks G → {ν : ℕ} {δ : GName} (ys zs : List (R .Denot)) → length zs ≡ length ys
         → Step K W (‵ (Holds zs) ∷ Γ) G (‵ (flft (ν ∷ []) fullShare) ∷ ‵ (Lent ν δ ys) ∷ ‵ (finally R δ zs) ∷ Γ) G
     comes-home t z {ν} {δ} ys zs e = step (λ s. move t (1 ∷ []) $ fsplit t $ pureL t (at-slice R (at-last x ys) (v ∷ [])) (λ p. move t (1 ∷ []) $ lft-end t z $
@@ -75,6 +81,7 @@ module _ (R : RattleType) (ℓ : Lifetime) (κ : Lft) (q : Share) (x : RefT (Lis
         (comes-back R κ (ν ∷ []) q (x .name) (x .ptr .0) (x .ptr .1) 𝓤 H A W ℓ ℓ ys δ zs (p .1) e) $ await t z $ split t $
         rewrite t 0 (λ (us : List Val). ‵ (MutSlice ℓ κ R .own (at-last x zs) us)) (sym (p .0)) refl $ fjoin t $ s))
 
+    -- it is lent as `&`
     pub shares : K → Soaks G → (ℓ′ : Lifetime) (ys : List (R .Denot))
         → ((μ : ℕ) (δ : GName) → Seq K W (‵ (ShrSlice ℓ′ (μ ∷ []) R .own (under δ ys) (v ∷ [])) ∷ ‵ (flft (μ ∷ []) fullShare) ∷ ‵ (Shared μ ys) ∷ Γ) G)
         → Seq K W (‵ (Holds ys) ∷ Γ) G
@@ -88,6 +95,7 @@ module _ (R : RattleType) (ℓ : Lifetime) (κ : Lft) (q : Share) (x : RefT (Lis
         pureI t (at-slice R (at-last x ys) (v ∷ [])) (tt, (tt, tt)) p $ fjoin t $
         move t (1 ∷ 2 ∷ 0 ∷ []) $ k μ δ)))
 
+    -- it comes back, as it was
     pub returns-home : K → Soaks G → {μ : ℕ} (ys : List (R .Denot)) → Step K W (‵ (Holds ys) ∷ Γ) G (‵ (flft (μ ∷ []) fullShare) ∷ ‵ (Shared μ ys) ∷ Γ) G
     returns-home t z {μ} ys = step (λ s. move t (1 ∷ []) $ fsplit t $ pureL t (at-slice R (at-last x ys) (v ∷ [])) (λ p. fsplit t $
         -- [the lender's part; what else is kept; μ's token; …]

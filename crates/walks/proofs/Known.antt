@@ -86,11 +86,12 @@ module _ {n : ℕ} where
     abbrev pub rows : List (Known n) → List RattleType
     rows ks = typesAt (slots ks) κs
 
-    -- their machine values, and that these can only be those
+    -- their machine values
     abbrev pub spells : (ks : List (Known n)) → Spells (rows ks)
     spells [] = tt
     spells (k ∷ ks) = (k .vals κs, spells ks)
 
+    -- and these can only be those
     abbrev pub tells : (ks : List (Known n)) → Tellss (rows ks) (Ises (rows ks)) (spells ks)
     tells [] = tt
     tells (k ∷ ks) = (k .tell κs, tells ks)
@@ -132,10 +133,11 @@ module _ {n : ℕ} where
   abbrev pub number : Width → Value n
   number w = record { known = uint w; silent = λ κs x f. refl; makes = λ 𝓤 H A W κs. uint-makes 𝓤 H A W w }
 
-  -- an enum and a struct
+  -- an enum
   abbrev pub enum : (T : E.Declared) (L : EL.Laws T) (few : Few (E.shape T)) → Plainss (E.variants T) → Silent {n = n} (one-of T L few) → Value n
   enum T L few plain-parts silent = record { known = one-of T L few; silent = silent; makes = λ 𝓤 H A W κs. EL.makes T plain-parts 𝓤 H A }
 
+  -- a struct
   abbrev pub struct : (T : S.Declared) (L : LL.Laws T) → Plains (S.fields T) → Silent {n = n} (record-of T L) → Value n
   struct T L plain-parts silent = record { known = record-of T L; silent = silent; makes = λ 𝓤 H A W κs. LL.makes T plain-parts 𝓤 H A }
 
@@ -152,7 +154,8 @@ module _ {n : ℕ} where
     -- what they own is had for nothing
     pub owned-values : (vs : List (Value n)) (a : Denots (rows κs (types-of vs))) → Related κs (types-of vs) a
         → ent 𝓤 (emp 𝓤) (sem 𝓤 H A (owns (rows κs (types-of vs)) a (valss (rows κs (types-of vs)) (spells κs (types-of vs)) a)))
-    owned-values vs a are = owns-make 𝓤 H A (rows κs (types-of vs)) (Ises (rows κs (types-of vs))) (make vs) a (valss (rows κs (types-of vs)) (spells κs (types-of vs)) a) are
+    owned-values vs a are = owns-make 𝓤 H A (rows κs (types-of vs)) (Ises (rows κs (types-of vs))) (make vs) a
+        (valss (rows κs (types-of vs)) (spells κs (types-of vs)) a) are
 
 -- ---- parameters
 -- a parameter, with what is had of it at exit

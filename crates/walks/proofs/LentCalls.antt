@@ -19,7 +19,8 @@ use ghost.Atoms.{Atoms, sem}
 use sound.WpLaws.{FmC}
 use contract.Lifetimes.{Lfts, Shares, toks}
 use contract.Monad.{fact}
-use types.Kit.{Given, ‵, raw, _⊛_, ⋆, prop, _$_, _∵_, !, qed, move, keep, use0, use1, use2, split, join, regoal, fsplit, fjoin, feqL, updating, now as at-once, check, show, done}
+use types.Kit.{Given, ‵, raw, _⊛_, ⋆, prop, _$_, _∵_, !, qed, move, keep, use0, use1, use2, split, join, regoal, fsplit, fjoin, feqL, updating, now as at-once}
+use types.Kit.{check, show, done}
 use denote.RattleType.{RattleType, Denots, Valss, owns}
 use denote.Laws.{Is, valss}
 use denote.Ref.{RefT, now}
@@ -45,7 +46,8 @@ TakesShr E ks R = ended (shared 0 tt E ∷ ks) (plain (λ _. R))
 abbrev pub TakesBoth : (E F : RattleType) → List (Known 2) → RattleType → Ended
 TakesBoth E F ks R = ended (lent 0 tt E ∷ shared 1 tt F ∷ ks) (plain (λ _. R))
 
-module _ (E : RattleType) (ℓ : Lifetime) (κ : Lft) (q : Share) (x : RefT (List (E .Denot))) (v : Val) {M : Type 1} (𝓤 : URA M) (H : Heap 𝓤) (A : Atoms 𝓤) (W : Given 𝓤 H A) (C : Calls 𝓤 H)
+module _ (E : RattleType) (ℓ : Lifetime) (κ : Lft) (q : Share) (x : RefT (List (E .Denot))) (v : Val) {M : Type 1} (𝓤 : URA M) (H : Heap 𝓤) (A : Atoms 𝓤)
+    (W : Given 𝓤 H A) (C : Calls 𝓤 H)
     (fm : FmC 𝓤 H (W .laws) C) (ys : List (E .Denot)) where
   abbrev Whole : List (E .Denot) → Fml
   Whole = Holds E ℓ κ q x v
@@ -60,6 +62,7 @@ module _ (E : RattleType) (ℓ : Lifetime) (κ : Lft) (q : Share) (x : RefT (Lis
     abbrev vals : (ν : ℕ) → Valss (rows (ν ∷ [], κs) ks)
     vals ν = valss (rows (ν ∷ [], κs) ks) (spells (ν ∷ [], κs) ks) (rest ν)
 
+    -- the call runs with the slice as `&mut`
     pub lends-mut : (callee : Name) → Triple 𝓤 (C callee) (Contracted 𝓤 H A (TakesMut E m ks R) c)
         → (us : List Val) → ((ν : ℕ) → passed-as (ν ∷ [], κs) ks (rest ν) ≡ us)
         → (P : SProp 𝓤) → ((ν : ℕ) → ent 𝓤 P (sem 𝓤 H A (owns (rows (ν ∷ [], κs) ks) (rest ν) (vals ν))))
@@ -95,18 +98,21 @@ module _ (E : RattleType) (ℓ : Lifetime) (κ : Lft) (q : Share) (x : RefT (Lis
     abbrev vals-shown : (μ : ℕ) → Valss (rows (μ ∷ [], tt) (types-of vs))
     vals-shown μ = valss (rows (μ ∷ [], tt) (types-of vs)) (spells (μ ∷ [], tt) (types-of vs)) (rest μ)
 
+    -- the call runs with the slice as `&`
     pub lends-shr : (callee : Name) → Triple 𝓤 (C callee) (Contracted 𝓤 H A (TakesShr E (types-of vs) R) c)
         → (us : List Val) → ((μ : ℕ) → passed-as (μ ∷ [], tt) (types-of vs) (rest μ) ≡ us)
         → ((μ : ℕ) → Related (μ ∷ [], tt) (types-of vs) (rest μ)) → (g : (μ : ℕ) (ε : GName) → c (μ ∷ [], tt) (shown μ ε) .ghost)
         → ((μ : ℕ) (ε : GName) → ent 𝓤 (emp 𝓤) (c (μ ∷ [], tt) (shown μ ε) .requires (g μ ε))) → (Q : R .Denot → Type 0)
-        → ((μ : ℕ) (ε : GName) (r : R .Denot) (e : AtExit (TakesShr E (types-of vs) R) (μ ∷ [], tt)) → ent 𝓤 (c (μ ∷ [], tt) (shown μ ε) .ensures (g μ ε) r e) (fact 𝓤 (Q r)))
+        → ((μ : ℕ) (ε : GName) (r : R .Denot) (e : AtExit (TakesShr E (types-of vs) R) (μ ∷ [], tt))
+        → ent 𝓤 (c (μ ∷ [], tt) (shown μ ε) .ensures (g μ ε) r e) (fact 𝓤 (Q r)))
         → ent 𝓤 (sem 𝓤 H A (Whole ys)) (H .⇛ (C callee (v ∷ us) (Yields 𝓤 H R (λ r. guard 𝓤 (Q r) (sem 𝓤 H A (Whole ys))))))
     lends-shr callee known us us-are are g asked Q said =
         qed W (‵ (Whole ys) ∷ []) ∵ updating ! $ shares E ℓ κ q x v ! tt (named 0) ys (λ μ ε.
         let to : Contracted 𝓤 H A (TakesShr E (types-of vs) R) c .Ghost = (((μ ∷ [], tt), (fullShare, tt), tt, shown μ ε, (v ∷ [], vals-shown μ)), g μ ε) in
         at-once ! $ regoal ! (λ (ws : List Val). prop (C callee (v ∷ ws) (Yields 𝓤 H R (λ r. guard 𝓤 (Q r) (sem 𝓤 H A (Whole ys)))))) (sym (us-are μ)) refl $
         -- [the slice, lent; μ's token; what is kept of it]
-        use0 W (‵ (owns (rows (μ ∷ [], tt) (types-of vs)) (rest μ) (vals-shown μ))) (owned-values 𝓤 H A W (μ ∷ [], tt) vs (rest μ) (are μ)) $ move ! (1 ∷ 0 ∷ []) $ fjoin ! $ nothing ! $ move ! (2 ∷ 0 ∷ []) $ join ! $ join ! $
+        use0 W (‵ (owns (rows (μ ∷ [], tt) (types-of vs)) (rest μ) (vals-shown μ))) (owned-values 𝓤 H A W (μ ∷ [], tt) vs (rest μ) (are μ)) $ move ! (1 ∷ 0 ∷ []) $
+        fjoin ! $ nothing ! $ move ! (2 ∷ 0 ∷ []) $ join ! $ join ! $
         use0 W (raw (c (μ ∷ [], tt) (shown μ ε) .requires (g μ ε))) (asked μ ε) $ move ! (1 ∷ 0 ∷ []) $
         use2 W (raw (Contracted 𝓤 H A (TakesShr E (types-of vs) R) c .pre to)) (id⊢ 𝓤 _) $
         asks ! fm (Contracted 𝓤 H A (TakesShr E (types-of vs) R) c) known to
@@ -117,13 +123,16 @@ module _ (E : RattleType) (ℓ : Lifetime) (κ : Lft) (q : Share) (x : RefT (Lis
 
 -- x is lent as `&mut`, and z as `&`
 module _ (E F : RattleType) (ℓ ℓ′ : Lifetime) (κ κ′ : Lft) (q q′ : Share) (x : RefT (List (E .Denot))) (z : RefT (List (F .Denot))) (xv zv : Val) where
+  -- x, as it is held
   abbrev pub Written : List (E .Denot) → Fml
   Written = Holds E ℓ κ q x xv
 
+  -- z, as it is held
   abbrev pub Read : List (F .Denot) → Fml
   Read = Holds F ℓ′ κ′ q′ z zv
 
-  module _ {M : Type 1} (𝓤 : URA M) (H : Heap 𝓤) (A : Atoms 𝓤) (W : Given 𝓤 H A) (C : Calls 𝓤 H) (fm : FmC 𝓤 H (W .laws) C) (xs : List (E .Denot)) (zs : List (F .Denot)) where
+  module _ {M : Type 1} (𝓤 : URA M) (H : Heap 𝓤) (A : Atoms 𝓤) (W : Given 𝓤 H A) (C : Calls 𝓤 H) (fm : FmC 𝓤 H (W .laws) C) (xs : List (E .Denot))
+      (zs : List (F .Denot)) where
     module _ (vs : List (Value 2)) (R : RattleType) (c : Clauses 𝓤 (TakesBoth E F (types-of vs) R)) (rest : (κs : Lfts 2) → Denots (rows κs (types-of vs))) where
       -- what the callee is passed: x, lent for ν under the name δ, and z, for μ under the name ε
       abbrev lent-args : (ν μ : ℕ) (δ ε : GName) → Args (TakesBoth E F (types-of vs) R .signature) (ν ∷ [], (μ ∷ [], tt))
@@ -132,6 +141,7 @@ module _ (E F : RattleType) (ℓ ℓ′ : Lifetime) (κ κ′ : Lft) (q q′ : S
       abbrev vals-lent : (κs : Lfts 2) → Valss (rows κs (types-of vs))
       vals-lent κs = valss (rows κs (types-of vs)) (spells κs (types-of vs)) (rest κs)
 
+      -- the call runs with x as `&mut` and z as `&`
       pub lends-both : (callee : Name) → Triple 𝓤 (C callee) (Contracted 𝓤 H A (TakesBoth E F (types-of vs) R) c) → (us : List Val)
           → ((κs : Lfts 2) → passed-as κs (types-of vs) (rest κs) ≡ us)
           → ((κs : Lfts 2) → Related κs (types-of vs) (rest κs))
@@ -140,16 +150,19 @@ module _ (E F : RattleType) (ℓ ℓ′ : Lifetime) (κ κ′ : Lft) (q q′ : S
           → ((ν μ : ℕ) (δ ε : GName) (r : R .Denot) (e : AtExit (TakesBoth E F (types-of vs) R) (ν ∷ [], (μ ∷ [], tt)))
           → ent 𝓤 (c (ν ∷ [], (μ ∷ [], tt)) (lent-args ν μ δ ε) .ensures (g ν μ δ ε) r e) (fact 𝓤 (Q r (now (e .0)))))
           → ent 𝓤 (⋆ 𝓤 H A (‵ (Written xs) ∷ ‵ (Read zs) ∷ []))
-          (H .⇛ (C callee (xv ∷ zv ∷ us) (Yields 𝓤 H R (λ r. ex 𝓤 (λ (us : List (E .Denot)). guard 𝓤 (Q r us) (sep 𝓤 (sem 𝓤 H A (Written us)) (sem 𝓤 H A (Read zs))))))))
+          (H .⇛ (C callee (xv ∷ zv ∷ us) (Yields 𝓤 H R
+          (λ r. ex 𝓤 (λ (us : List (E .Denot)). guard 𝓤 (Q r us) (sep 𝓤 (sem 𝓤 H A (Written us)) (sem 𝓤 H A (Read zs))))))))
       lends-both callee known us us-are are g asked Q said =
           let Ends : R .Denot → List (E .Denot) → SProp 𝓤 = λ r us. guard 𝓤 (Q r us) (sep 𝓤 (sem 𝓤 H A (Written us)) (sem 𝓤 H A (Read zs))) in
           qed W (‵ (Written xs) ∷ ‵ (Read zs) ∷ []) ∵ updating ! $
           lends E ℓ κ q x xv ! tt (named 0) xs (λ ν δ. move ! (3 ∷ []) $ shares F ℓ′ κ′ q′ z zv ! tt (named 1) zs (λ μ ε.
           let κs : Lfts 2 = (ν ∷ [], (μ ∷ [], tt)) in
-          let to : Contracted 𝓤 H A (TakesBoth E F (types-of vs) R) c .Ghost = ((κs, (fullShare, (fullShare, tt)), tt, lent-args ν μ δ ε, (xv ∷ [], (zv ∷ [], vals-lent κs))), g ν μ δ ε) in
+          let to : Contracted 𝓤 H A (TakesBoth E F (types-of vs) R) c .Ghost =
+          ((κs, (fullShare, (fullShare, tt)), tt, lent-args ν μ δ ε, (xv ∷ [], (zv ∷ [], vals-lent κs))), g ν μ δ ε) in
           at-once ! $ regoal ! (λ (ws : List Val). prop (C callee (xv ∷ zv ∷ ws) (Yields 𝓤 H R (λ r. ex 𝓤 (Ends r))))) (sym (us-are κs)) refl $
           -- [z, lent; μ's token; what is kept of it; x, lent; ν's token; what is kept of it]
-          use0 W (‵ (owns (rows κs (types-of vs)) (rest κs) (vals-lent κs))) (owned-values 𝓤 H A W κs vs (rest κs) (are κs)) $ move ! (1 ∷ 0 ∷ []) $ fjoin ! $ move ! (3 ∷ 0 ∷ []) $ fjoin ! $ nothing ! $
+          use0 W (‵ (owns (rows κs (types-of vs)) (rest κs) (vals-lent κs))) (owned-values 𝓤 H A W κs vs (rest κs) (are κs)) $ move ! (1 ∷ 0 ∷ []) $ fjoin ! $
+          move ! (3 ∷ 0 ∷ []) $ fjoin ! $ nothing ! $
           move ! (2 ∷ 0 ∷ []) $ join ! $ move ! (3 ∷ 0 ∷ []) $ join ! $ move ! (0 ∷ 1 ∷ []) $ join ! $
           use0 W (raw (c κs (lent-args ν μ δ ε) .requires (g ν μ δ ε))) (asked ν μ δ ε) $ move ! (1 ∷ 0 ∷ []) $
           use2 W (raw (Contracted 𝓤 H A (TakesBoth E F (types-of vs) R) c .pre to)) (id⊢ 𝓤 _) $

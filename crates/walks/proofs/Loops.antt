@@ -39,6 +39,7 @@ module _ (n : ℕ) (P : ℕ → Type 0) where
   abbrev pub Nearer : Upto → Upto → Type 0
   Nearer j i = n - j .0 < n - i .0
 
+  -- a loop comes to an end of them
   pub nearer-wf : WellFounded Nearer
   nearer-wf = InvImage·wf (λ (i : Upto). n - i .0) (Nat·lt-wfRel .wf)
 

@@ -44,6 +44,7 @@ module _ {M : Type 1} {𝓤 : URA M} {H : Heap 𝓤} {A : Atoms 𝓤} {K : Type 
       (sub t k in-struct (whole t)))
 
   module _ {E : Env 𝓤 H} where
+    -- field k of the struct at entry n is read
     pub member : K → (n k : ℕ) {i : ℕ} {s : Share} {ν : Sym} {τs : Tys} {vs : Vals} {τ : Ty} {d : ℕ}
         → nth 𝓤 H A n Γ ≡ ‵ (fat s (tyStruct ν τs) (spotOf 𝓤 H E i .1) (spotOf 𝓤 H E i .2) (vstruct vs)) → fieldAt zero τs k ≡ some (τ, d)
         → fieldOf (spotOf 𝓤 H E i .0) k ≡ some (τ, d)
@@ -51,6 +52,7 @@ module _ {M : Type 1} {𝓤 : URA M} {H : Heap 𝓤} {A : Atoms 𝓤} {K : Type 
     member t n k e in-struct in-place = load t (from t (fld t in-place (stop t))) (reads-member t n k e in-struct)
 
 module _ {M : Type 1} {𝓤 : URA M} {H : Heap 𝓤} {A : Atoms 𝓤} {K : Type 0} {W : Given 𝓤 H A} {Γ : List (Item 𝓤)} {E : Env 𝓤 H} where
+  -- the slice at entry n is lent on
   pub lends-on : K → {C : Calls 𝓤 H} {Λ : Loops 𝓤 H} {q : Post 𝓤 H} {rest : Body} (n k j : ℕ) {i x y : ℕ} {s : Share} {τ ρ : Ty} {b o m c d : ℕ}
       → nth 𝓤 H A n Γ ≡ ‵ (fat s (sliceTy ρ) (spotOf 𝓤 H E i .1) (spotOf 𝓤 H E i .2) (sliceVal (b, o) m))
       → fieldAt zero (tcons ρ (tcons (tyInt w64) tnil)) 0 ≡ some (ρ, c) → fieldOf (spotOf 𝓤 H E i .0) 0 ≡ some (ρ, c)

@@ -22,9 +22,10 @@ use ghost.Atoms.{Atoms, sem}
 use contract.Lifetimes.{Lfts, Shares}
 use contract.Monad.{Fun, factI}
 use contract.Running.{givenOf, tables, tablesOf}
-use types.Kit.{Given, Item, ‵, raw, _⊛_, ⋆, mean, given, later, prop, runs, anyQ, atRet, Sq, _$_, _∵_, !, qed, by, move, drop, use1, group, split, join, learn, rewrite, fsplit, fjoin, feqI, suffices, frame, await, done}
-use types.Part.{whole, sub, look-in}
-use types.Run.{look, store, store-raw, init, forget, stop, hop, fld, from, load, lit, unit-lit, of-opd, bin, and-then, no-more, assigns, assigns-last, calls, land, first, skips, jumps, blocks, branches, returns, exec, again, loops}
+use types.Kit.{Given, Item, ‵, raw, _⊛_, ⋆, mean, given, later, prop, runs, anyQ, atRet, Sq, _$_, _∵_, !, qed, by, move, drop, use1, group, split, join, learn}
+use types.Kit.{rewrite, fsplit, fjoin, feqI, suffices, frame, await, done}
+use types.Run.{look, store, store-raw, init, forget, stop, hop, from, lit, unit-lit, of-opd, bin, and-then, no-more, assigns, assigns-last, calls, land}
+use types.Run.{first, skips, jumps, blocks, branches, returns, exec, again, loops}
 use sound.WpLaws.{FmC, fmOf}
 use denote.RattleType.{owns}
 use denote.Laws.{Is, shows}
@@ -36,9 +37,8 @@ use denote.Lend.{Held}
 use denote.Index.{place-is, row, elem-out, elem-put, opens-slice}
 use denote.Signature.{plain}
 use denote.Steps.{only, nothing, owned}
-use denote.Triple.Statement.{Triple}
+use denote.Triple.Statement.{Contract, Triple}
 use denote.Triple.Entry.{Args, Vals, onEntry}
-use denote.Triple.Spec.{tripleOf}
 use denote.Triple.Table.{cited}
 use denote.Triple.Walked.{says, needs, ends-at}
 use Rattle.endian.specs.declared.Order.{Order}
@@ -60,9 +60,11 @@ use Rattle.extents.proofs.run_after.Met as step-met
 use Rattle.walks.proofs.Again.{closes-as}
 use Rattle.walks.proofs.Calls.{answered}
 use Rattle.extent_tables.proofs.Extents.{value, values, tells, lawful, makes, ToldExtent, order-value, makes-order, an-order}
+use Rattle.walks.proofs.Contracts.{Contracted}
 use Rattle.walks.proofs.Known.{Parameter, number, by-value, seen, held, knowns, stays, Related, typed}
 use Rattle.walks.proofs.Locals.{Addresses, env, Holding, empty, holds, cell, cells, starts, frees-all, at}
 use Rattle.walks.proofs.Proved.{Done, proved}
+use Rattle.walks.proofs.Slices.{member}
 use Rattle.walks.proofs.Loops.{after, Upto, Nearer, nearer-wf, Turned}
 use Rattle.extent_tables.proofs.fill as self
 use Rattle.extent_tables.proofs.fill.Code as code
@@ -95,9 +97,17 @@ first-filled : (f : ℕ → Extent) (ys : List Extent) → ys ≡ listOf f 0 ++ 
 unfolding listOf
 first-filled f ys = refl
 
+-- the contracts of `extents::directory` and `extents::run_after`
+module _ {M : Type 1} (𝓤 : URA M) (H : Heap 𝓤) (A : Atoms 𝓤) (mem : Memory → SProp 𝓤) (run : Routine → Fun 𝓤) where
+  abbrev Starting : Contract 𝓤
+  Starting = Contracted 𝓤 H A start.ended (start.clauses 𝓤 H A mem run)
+
+  abbrev Stepping : Contract 𝓤
+  Stepping = Contracted 𝓤 H A step.ended (step.clauses 𝓤 H A mem run)
+
 module _ {M : Type 1} (𝓤 : URA M) (H : Heap 𝓤) (A : Atoms 𝓤) (W : Given 𝓤 H A) (mem : Memory → SProp 𝓤) (run : Routine → Fun 𝓤) (𝓣 : Tables 𝓤 H)
-    (known-start : Triple 𝓤 (𝓣 .C start-def.name) (tripleOf 𝓤 H A start.signature (start.spec 𝓤 H A mem run)))
-    (known-step : Triple 𝓤 (𝓣 .C step-def.name) (tripleOf 𝓤 H A step.signature (step.spec 𝓤 H A mem run)))
+    (known-start : Triple 𝓤 (𝓣 .C start-def.name) (Starting 𝓤 H A mem run))
+    (known-step : Triple 𝓤 (𝓣 .C step-def.name) (Stepping 𝓤 H A mem run))
     (κs : Lfts 2) (qs : Shares 2) (a : Args self.signature κs) (are : Related κs (knowns params) a)
     (asked : (a .1 .1 .1 .0 ≤ length (a .0 .now)) × (0 < a .1 .1 .1 .0 → Accepted (a .1 .1 .0) (a .1 .0 .now))) where
   abbrev κ : Lft
@@ -195,7 +205,7 @@ module _ {M : Type 1} (𝓤 : URA M) (H : Heap 𝓤) (A : Atoms 𝓤) (W : Given
   passes s = qed W (File ∷ []) ∵ split ! $ move ! (1 ∷ []) $ use1 W (‵ OwnF ⊛ ‵ OwnF) (shr-slice-copy 𝓤 H A W (named 1) κ′ u8 .twice file (fv ∷ [])) $ split ! $
       move ! (0 ∷ 2 ∷ []) $ s
 
-  abbrev to-start : tripleOf 𝓤 H A start.signature (start.spec 𝓤 H A mem run) .Ghost
+  abbrev to-start : Starting 𝓤 H A mem run .Ghost
   to-start = (((κ′, tt), (q′, tt), tt, (file, (order, tt)), (fv ∷ [], (ov ∷ [], tt))), tt)
 
   asks-start : ent 𝓤 (mean 𝓤 H A File) (C start-def.name (fv ∷ ov ∷ []) (λ u. mean 𝓤 H A (Ran 0 u)))
@@ -205,7 +215,7 @@ module _ {M : Type 1} (𝓤 : URA M) (H : Heap 𝓤) (A : Atoms 𝓤) (W : Given
       nothing ! $ owned ! O.the-row (Is O.the-row) (makes-order 𝓤 H A) order _ order-is $ fjoin ! $ move ! (1 ∷ 0 ∷ []) $ fjoin ! $ move ! (1 ∷ 0 ∷ []) $ done !)
 
   module _ (i : ℕ) (l : i < n) (is : Is X.the-row (cur i) (value (cur i) ∷ [])) where
-    abbrev to-step : tripleOf 𝓤 H A step.signature (step.spec 𝓤 H A mem run) .Ghost
+    abbrev to-step : Stepping 𝓤 H A mem run .Ghost
     to-step = (((κ′, tt), (q′, tt), tt, (file, (order, (cur i, tt))), (fv ∷ [], (ov ∷ [], (value (cur i) ∷ [], tt)))), tt)
 
     asks-step : ent 𝓤 (mean 𝓤 H A File) (C step-def.name (fv ∷ ov ∷ value (cur i) ∷ []) (λ u. mean 𝓤 H A (Ran (i + 1) u)))
@@ -272,7 +282,7 @@ module _ {M : Type 1} (𝓤 : URA M) (H : Heap 𝓤) (A : Atoms 𝓤) (W : Given
         calls ! fm (Ran (i .0 + 1)) (and-then ! (at ! 9 refl) (and-then ! (at ! 11 refl) (and-then ! (at ! 15 refl) (no-more !)))) (λ u. await ! tt $ learn ! (λ told.
         land ! (from ! (stop !)) (store ! 15 refl (told .typed .0)) $ rewrite ! 15 (cell 𝓤 H En 5) (ap only (told .is-value)) refl $
         assigns ! (bin ! (at ! 17 refl) (lit ! tt) (record { fits = far })) (from ! (stop !)) (init ! 21 refl (tt, record { fits = far })) $
-        assigns ! (bin ! (load ! (from ! (fld ! refl (stop !))) (look-in ! 7 (sub ! 0 refl (whole !)))) (at ! 21 refl) tt) (from ! (stop !)) (init ! 23 refl (tt, tt)) $
+        assigns ! (bin ! (member ! 7 0 refl refl refl) (at ! 21 refl) tt) (from ! (stop !)) (init ! 23 refl (tt, tt)) $
         rewrite ! 23 (λ (p : ℕ). cell 𝓤 H En 9 (vptr b p)) (sym (place-is 16 o (i .0))) refl $
         move ! (1 ∷ []) $ elem-out ! X.the-row (Is X.the-row) (shows 𝓤 H A X.the-row) values tells fullShare (so-far (i .0)) (i .0) none b o in-table (λ _.
         -- [table[i]; what it owns; the others; the file; the rest of the open table, 3 entries; _0; …]: local j stands at 7 + 2 · j
@@ -313,7 +323,7 @@ fill-spec 𝓤 H 𝓜 𝓖 𝓡 =
     let run = 𝓡 .run in
     proved params (plain (λ _. Nothing)) 𝓤 H 𝓜 𝓖 𝓡 code.env (self.clauses 𝓤 H A mem run) key.name code.function (code.unfolded 𝓤 H 𝓜 𝓡)
     (λ κs qs a g are. needs 𝓤 _ _ (λ asked. walk 𝓤 H A (givenOf 𝓤 H 𝓜 𝓖) mem run (tablesOf 𝓤 H 𝓜 (tables 𝓤 H 𝓜 𝓡 code.env))
-    (cited 𝓤 H (tripleOf 𝓤 H A start.signature (start.spec 𝓤 H A mem run)) 𝓜 𝓡 code.env start-def.name start-def.routine code.calls-extents·directory
+    (cited 𝓤 H (Starting 𝓤 H A mem run) 𝓜 𝓡 code.env start-def.name start-def.routine code.calls-extents·directory
     (start-met.met 𝓤 H 𝓜 𝓖 𝓡))
-    (cited 𝓤 H (tripleOf 𝓤 H A step.signature (step.spec 𝓤 H A mem run)) 𝓜 𝓡 code.env step-def.name step-def.routine code.calls-extents·run-after
+    (cited 𝓤 H (Stepping 𝓤 H A mem run) 𝓜 𝓡 code.env step-def.name step-def.routine code.calls-extents·run-after
     (step-met.met 𝓤 H 𝓜 𝓖 𝓡)) κs qs a are asked))

@@ -21,9 +21,11 @@ use ghost.Atoms.{Atoms}
 use contract.Lifetimes.{Lfts, Shares}
 use contract.Monad.{Fun}
 use contract.Running.{givenOf, tables, tablesOf}
-use types.Kit.{Given, Item, ‵, raw, _⊛_, ⋆, mean, given, later, runs, anyQ, atRet, Sq, _$_, _∵_, !, qed, by, move, drop, use0, split, join, learn, rewrite, fsplit, fjoin, suffices, frame, await, done}
-use types.Part.{agg, whole, sub, look-in}
-use types.Run.{look, look-raw, store, init, forget, stop, hop, fld, from, load, lit, of-opd, bin, and-then, no-more, assigns, assigns-last, calls, land, first, skips, jumps, blocks, branches, returns, exec, again, loops}
+use types.Kit.{Given, Item, ‵, raw, _⊛_, ⋆, mean, given, later, runs, anyQ, atRet, Sq, _$_, _∵_, !, qed, by, move, drop, use0, split, join, learn, rewrite, fsplit}
+use types.Kit.{fjoin, suffices, frame, await, done}
+use types.Part.{agg}
+use types.Run.{look, look-raw, store, init, forget, stop, hop, from, load, lit, of-opd, bin, and-then, no-more, assigns, assigns-last, calls, land, first}
+use types.Run.{skips, jumps, blocks, branches, returns, exec, again, loops}
 use types.Share.{arr-parts}
 use sound.WpLaws.{FmC, fmOf}
 use denote.RattleType.{owns}
@@ -36,9 +38,8 @@ use denote.Index.{place-is, elem-out, elem-back, looks-slice, shuts-slice}
 use denote.Signature.{plain}
 use denote.Steps.{only, nothing, owned}
 use denote.Struct.Laws as LL
-use denote.Triple.Statement.{Triple}
+use denote.Triple.Statement.{Contract, Triple}
 use denote.Triple.Entry.{Args, Vals, onEntry}
-use denote.Triple.Spec.{tripleOf}
 use denote.Triple.Table.{cited}
 use denote.Triple.Walked.{says, needs, ends-at}
 use Rattle.extents.specs.declared.Extent.{Extent}
@@ -51,9 +52,11 @@ use Rattle.extents.proofs.first_of.Symbol as pick-def
 use Rattle.extents.proofs.first_of.Met as pick-met
 use Rattle.walks.proofs.Calls.{answered}
 use Rattle.extent_tables.proofs.Extents.{value, values, tells, lawful, makes, ToldExtent}
+use Rattle.walks.proofs.Contracts.{Contracted}
 use Rattle.walks.proofs.Known.{Parameter, number, by-value, seen, knowns, stays, Related, typed}
 use Rattle.walks.proofs.Locals.{Addresses, env, Holding, empty, holds, cell, cells, starts, frees-all, at}
 use Rattle.walks.proofs.Proved.{Done, proved}
+use Rattle.walks.proofs.Slices.{member}
 use Rattle.walks.proofs.Loops.{after, Upto, Nearer, nearer-wf, Turned}
 use Rattle.extent_tables.proofs.first_fit as self
 use Rattle.extent_tables.proofs.first_fit.Code as code
@@ -84,8 +87,13 @@ next-found ys need i = rw add-one
 none-is : Is X.the-row none (value none ∷ [])
 none-is = LL.owes X.the-type X′.the-laws none ((refl, lit< tt), ((refl, lit< tt), tt))
 
+-- the contract of `extents::first_of`
+module _ {M : Type 1} (𝓤 : URA M) (H : Heap 𝓤) (A : Atoms 𝓤) (mem : Memory → SProp 𝓤) (run : Routine → Fun 𝓤) where
+  abbrev Choosing : Contract 𝓤
+  Choosing = Contracted 𝓤 H A pick.ended (pick.clauses 𝓤 H A mem run)
+
 module _ {M : Type 1} (𝓤 : URA M) (H : Heap 𝓤) (A : Atoms 𝓤) (W : Given 𝓤 H A) (mem : Memory → SProp 𝓤) (run : Routine → Fun 𝓤) (𝓣 : Tables 𝓤 H)
-    (known-pick : Triple 𝓤 (𝓣 .C pick-def.name) (tripleOf 𝓤 H A pick.signature (pick.spec 𝓤 H A mem run)))
+    (known-pick : Triple 𝓤 (𝓣 .C pick-def.name) (Choosing 𝓤 H A mem run))
     (κs : Lfts 1) (qs : Shares 1) (a : Args self.signature κs) (are : Related κs (knowns params) a) (within : a .1 .0 ≤ length (a .0 .now)) where
   abbrev κ : Lft
   κ = κs .0
@@ -139,7 +147,7 @@ module _ {M : Type 1} (𝓤 : URA M) (H : Heap 𝓤) (A : Atoms 𝓤) (W : Given
 
   -- the call, which is passed values only
   module _ (i : ℕ) (is : Is X.the-row (found i) (value (found i) ∷ [])) (ie : Is X.the-row (getD ys i none) (value (getD ys i none) ∷ [])) where
-    abbrev to-pick : tripleOf 𝓤 H A pick.signature (pick.spec 𝓤 H A mem run) .Ghost
+    abbrev to-pick : Choosing 𝓤 H A mem run .Ghost
     to-pick = ((tt, tt, tt, (need, (found i, (getD ys i none, tt))), (vint w64 need ∷ [], (value (found i) ∷ [], (value (getD ys i none) ∷ [], tt)))), tt)
 
     asks-pick : ent 𝓤 (emp 𝓤) (C pick-def.name (vint w64 need ∷ value (found i) ∷ value (getD ys i none) ∷ []) (λ u. mean 𝓤 H A (Chosen (i + 1) u)))
@@ -196,7 +204,7 @@ module _ {M : Type 1} (𝓤 : URA M) (H : Heap 𝓤) (A : Atoms 𝓤) (W : Given
         let fits : i .0 + 1 < 2 ^ 64 = omega (arith, lt, n-fits) in
         skips ! $ exec ! C (𝓣 .Λ) En more (anyQ (Ends i)) $
         assigns ! (bin ! (at ! 12 refl) (lit ! tt) (record { fits = far })) (from ! (stop !)) (init ! 16 refl (tt, record { fits = far })) $
-        assigns ! (bin ! (load ! (from ! (fld ! refl (stop !))) (look-in ! 4 (sub ! 0 refl (whole !)))) (at ! 16 refl) tt) (from ! (stop !)) (init ! 18 refl (tt, tt)) $
+        assigns ! (bin ! (member ! 4 0 refl refl refl) (at ! 16 refl) tt) (from ! (stop !)) (init ! 18 refl (tt, tt)) $
         rewrite ! 18 (λ (p : ℕ). cell 𝓤 H En 8 (vptr b p)) (sym (place-is 16 o (i .0))) refl $
         looks-slice ! tt X.the-row (Is X.the-row) (shows 𝓤 H A X.the-row) values tells (LL.copy X.the-type X′.the-copy 𝓤 H A W) ys b o (λ q′.
         elem-out ! X.the-row (Is X.the-row) (shows 𝓤 H A X.the-row) values tells q′ ys (i .0) none b o in-table (λ ie.
@@ -236,5 +244,5 @@ first-fit-spec 𝓤 H 𝓜 𝓖 𝓡 =
     let run = 𝓡 .run in
     proved params (plain (λ _. X.the-row)) 𝓤 H 𝓜 𝓖 𝓡 code.env (self.clauses 𝓤 H A mem run) key.name code.function (code.unfolded 𝓤 H 𝓜 𝓡)
     (λ κs qs a g are. needs 𝓤 _ _ (λ within. walk 𝓤 H A (givenOf 𝓤 H 𝓜 𝓖) mem run (tablesOf 𝓤 H 𝓜 (tables 𝓤 H 𝓜 𝓡 code.env))
-    (cited 𝓤 H (tripleOf 𝓤 H A pick.signature (pick.spec 𝓤 H A mem run)) 𝓜 𝓡 code.env pick-def.name pick-def.routine code.calls-extents·first-of
+    (cited 𝓤 H (Choosing 𝓤 H A mem run) 𝓜 𝓡 code.env pick-def.name pick-def.routine code.calls-extents·first-of
     (pick-met.met 𝓤 H 𝓜 𝓖 𝓡)) κs qs a are within))

@@ -39,7 +39,8 @@ add-end c =
     let i = c .before .before .before .loop in
     let a = c .before .before .before .before .before .before .args in
     let w = wordAt (a .order) (now (a .file)) in
-    let inside = slot-inside w (length (now (a .file))) (i .k) (c .before .before .before .before .before .before .pre) (omega (arith, c .before .before .loop-test .taken, i .inv .1 .0)) in
+    let inside = slot-inside w (length (now (a .file))) (i .k) (c .before .before .before .before .before .before .pre)
+    (omega (arith, c .before .before .loop-test .taken, i .inv .1 .0)) in
     omega (arith, inside, ap endOf (c .before .slot-extent .ensures))
 
 add-k : tie.Need-add-k Inv-loop μ-loop
@@ -57,7 +58,8 @@ loop-again c =
       omega (arith, c .before .before .before .loop-test .taken),
       (
         i .inv .1 .0,
-        ⊎-elim (λ t. t .1 ∙ highest-taken w (i .k) _ slot _ (i .high) (i .inv .1 .1) (t .0 .taken)) (λ t. t .1 ∙ highest-left w (i .k) _ slot _ (i .high) (i .inv .1 .1) (t .0 .left)) (c .if1 .came),
+        ⊎-elim (λ t. t .1 ∙ highest-taken w (i .k) _ slot _ (i .high) (i .inv .1 .1) (t .0 .taken))
+        (λ t. t .1 ∙ highest-left w (i .k) _ slot _ (i .high) (i .inv .1 .1) (t .0 .left)) (c .if1 .came),
       ),
     )
 

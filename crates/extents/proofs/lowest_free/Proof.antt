@@ -26,7 +26,8 @@ taken-more {P} {a} {b} {d} before behind q l m = step (decLt q b)
 
 abbrev Inv-loop : tie.InvT-loop
 Inv-loop file order p at₀ past₀ at past =
-    (p ≤ at) × ((at ≤ length file / 4) × ((past ≡ pastGrid (wordAt order file) at (wordAt order file 10)) × ((q : ℕ) → p ≤ q → q < at → isFree (wordAt order file) q ≡ false)))
+    (p ≤ at) × ((at ≤ length file / 4) × ((past ≡ pastGrid (wordAt order file) at (wordAt order file 10)) ×
+    ((q : ℕ) → p ≤ q → q < at → isFree (wordAt order file) q ≡ false)))
 
 abbrev μ-loop : tie.MeasureT-loop
 μ-loop file order p at₀ past₀ at past = length file / 4 - at

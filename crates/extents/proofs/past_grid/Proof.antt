@@ -37,7 +37,8 @@ add-end c =
     let i = c .before .before .before .loop in
     let a = c .before .before .before .before .before .before .args in
     let w = wordAt (a .order) (now (a .file)) in
-    let inside = slot-inside w (length (now (a .file))) (i .k) (c .before .before .before .before .before .before .pre) (omega (arith, c .before .before .loop-test .taken, i .inv .1 .0)) in
+    let inside = slot-inside w (length (now (a .file))) (i .k) (c .before .before .before .before .before .before .pre)
+    (omega (arith, c .before .before .loop-test .taken, i .inv .1 .0)) in
     omega (arith, inside, ap endOf (c .before .slot-extent .ensures))
 
 and-requires : tie.Need-and-requires Inv-loop μ-loop

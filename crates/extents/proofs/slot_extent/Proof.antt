@@ -29,7 +29,8 @@ cast-offset : tie.Need-cast-offset
 cast-offset c = search needs
 
 read-word-requires-2 : tie.Need-read-word-requires-2
-read-word-requires-2 c κs = let s = c .before .before .before in let i = s .pre .0 .inside (s .args .k) (s .pre .1) (λ e. c .if1 .left (c .before .read-word .ensures ∙ e)) in omega (arith, i, c .before .read-word .ensures)
+read-word-requires-2 c κs = let s = c .before .before .before in let i = s .pre .0 .inside (s .args .k) (s .pre .1)
+    (λ e. c .if1 .left (c .before .read-word .ensures ∙ e)) in omega (arith, i, c .before .read-word .ensures)
 
 cast-t7 : tie.Need-cast-t7
 cast-t7 c = search needs

@@ -32,7 +32,8 @@ verdict-is : (s : tie.Start)
     a .plan .verdict ≡ firstFault (addRules (a .order) (now (a .file)) (length (now (a .header))) (a .rows) (a .columns) (length (now (a .values))) (a .size))
 verdict-is s =
     let a = s .args in
-    ap (λ (p : AddPlan). p .verdict) (s .pre .planned) ∙ plan-verdict (a .order) (now (a .file)) (length (now (a .header))) (a .rows) (a .columns) (length (now (a .values))) (a .size)
+    ap (λ (p : AddPlan). p .verdict) (s .pre .planned) ∙ plan-verdict (a .order) (now (a .file)) (length (now (a .header))) (a .rows) (a .columns)
+    (length (now (a .values))) (a .size)
 
 -- which have passed
 passed : (c : tie.After-enum-told)
@@ -45,20 +46,24 @@ numbered : (c : tie.After-enum-told) → let a = c .before .before .before .befo
 numbered c =
     let s = c .before .before .before .before in
     let a = s .args in
-    ap (λ (p : AddPlan). p .number) (s .pre .planned) ∙ plan-number (a .order) (now (a .file)) (length (now (a .header))) (a .rows) (a .columns) (length (now (a .values))) (a .size) (passed c)
+    ap (λ (p : AddPlan). p .number) (s .pre .planned) ∙ plan-number (a .order) (now (a .file)) (length (now (a .header))) (a .rows) (a .columns)
+    (length (now (a .values))) (a .size) (passed c)
 
 -- it begins at the lowest address
 placed : (c : tie.After-first-of)
-    → let a = c .before .before .before .before .before .before .args in c .first-of .result .start ≡ addressFor (a .order) (now (a .file)) (gridWords (a .rows) (a .columns))
+    → let a = c .before .before .before .before .before .before .args in c .first-of .result .start ≡ addressFor (a .order) (now (a .file))
+    (gridWords (a .rows) (a .columns))
 placed c = ap (λ (e : Extent). e .start) (c .first-of .ensures) ∙ c .before .before .before .before .before .before .pre .address (c .before .before .enum-told .given .1)
 
 -- the file with the grid in it
 written : (c : tie.After-write-grid)
     → let a = c .before .before .before .before .before .before .before .before .args in
-    c .write-grid .last .0 ≡ sets (now (a .file)) (4 * newAddress (a .order) (now (a .file)) (now (a .header)) (a .rows) (a .columns) (now (a .values))) (newBytes (a .order) (now (a .file)) (now (a .header)) (a .rows) (a .columns) (now (a .values)))
+    c .write-grid .last .0 ≡ sets (now (a .file)) (4 * newAddress (a .order) (now (a .file)) (now (a .header)) (a .rows) (a .columns) (now (a .values)))
+    (newBytes (a .order) (now (a .file)) (now (a .header)) (a .rows) (a .columns) (now (a .values)))
 written c =
     let a = c .before .before .before .before .before .before .before .before .args in
-    c .write-grid .ensures ∙ ap (λ (k : ℕ). sets (now (a .file)) (4 * k) (newBytes (a .order) (now (a .file)) (now (a .header)) (a .rows) (a .columns) (now (a .values)))) (placed (c .before .before))
+    c .write-grid .ensures ∙ ap (λ (k : ℕ). sets (now (a .file)) (4 * k)
+    (newBytes (a .order) (now (a .file)) (now (a .header)) (a .rows) (a .columns) (now (a .values)))) (placed (c .before .before))
 
 -- and in its slot
 put : (c : tie.After-write-number)
@@ -67,14 +72,17 @@ put : (c : tie.After-write-number)
 put c =
     let a = c .before .before .before .before .before .before .before .before .before .before .before .before .before .args in
     c .write-number .ensures
-    ∙ set-as (a .order) _ _ _ (11 + lowestEmpty (wordAt (a .order) (now (a .file)))) _ _ (written (c .before .before .before .before .before)) (omega (arith, numbered (c .before .before .before .before .before .before .before .before .before))) (placed (c .before .before .before .before .before .before .before))
+    ∙ set-as (a .order) _ _ _ (11 + lowestEmpty (wordAt (a .order) (now (a .file)))) _ _ (written (c .before .before .before .before .before))
+    (omega (arith, numbered (c .before .before .before .before .before .before .before .before .before)))
+    (placed (c .before .before .before .before .before .before .before))
 
 -- and with its next free word
 left : (c : tie.After-set-next-free)
     → let a = c .before .before .before .before .before .before .before .before .before .before .before .before .before .before .before .before .before .args in
     c .set-next-free .last .0 ≡ withGrid (a .order) (now (a .file)) (now (a .header)) (a .rows) (a .columns) (now (a .values))
 unfolding withGrid gridPut
-left c = let a = c .before .before .before .before .before .before .before .before .before .before .before .before .before .before .before .before .before .args in c .set-next-free .ensures ∙ ap (nextFreeSet (a .order)) (put (c .before .before .before .before))
+left c = let a = c .before .before .before .before .before .before .before .before .before .before .before .before .before .before .before .before .before .args in
+    c .set-next-free .ensures ∙ ap (nextFreeSet (a .order)) (put (c .before .before .before .before))
 
 enum-known-verdict : tie.Need-enum-known-verdict
 enum-known-verdict c = search needs
@@ -107,15 +115,19 @@ mul-write-number c = search needs
 cast-write-number-2 : tie.Need-cast-write-number-2
 cast-write-number-2 c =
     let a = c .before .before .before .before .before .before .before .before .before .before .before .before .args in
-    record { fits = omega (arith, add-place (a .order) (now (a .file)) (now (a .header)) (a .rows) (a .columns) (now (a .values)) (a .size) (passed (c .before .before .before .before .before .before .before .before)) .by-last, placed (c .before .before .before .before .before .before)) }
+    record { fits = omega (arith, add-place (a .order) (now (a .file)) (now (a .header)) (a .rows) (a .columns) (now (a .values)) (a .size)
+    (passed (c .before .before .before .before .before .before .before .before)) .by-last, placed (c .before .before .before .before .before .before)) }
 
 write-number-requires : tie.Need-write-number-requires
 write-number-requires c κs =
     let a = c .before .before .before .before .before .before .before .before .before .before .before .before .args in
     let ok = passed (c .before .before .before .before .before .before .before .before) in
     let p = add-passes (a .order) (now (a .file)) (length (now (a .header))) (a .rows) (a .columns) (length (now (a .values))) (a .size) .0 ok in
-    let same : length (c .before .before .before .before .write-grid .last .0) ≡ length (now (a .file)) = ap length (written (c .before .before .before .before)) ∙ length-sets (now (a .file)) (4 * newAddress (a .order) (now (a .file)) (now (a .header)) (a .rows) (a .columns) (now (a .values))) (newBytes (a .order) (now (a .file)) (now (a .header)) (a .rows) (a .columns) (now (a .values))) in
-    omega (arith, same, p .slot, numbered (c .before .before .before .before .before .before .before .before), accepted-slots (a .order) (now (a .file)) (p .asked .accepted) .room)
+    let same : length (c .before .before .before .before .write-grid .last .0) ≡ length (now (a .file)) = ap length (written (c .before .before .before .before)) ∙
+    length-sets (now (a .file)) (4 * newAddress (a .order) (now (a .file)) (now (a .header)) (a .rows) (a .columns) (now (a .values)))
+    (newBytes (a .order) (now (a .file)) (now (a .header)) (a .rows) (a .columns) (now (a .values))) in
+    omega (arith, same, p .slot, numbered (c .before .before .before .before .before .before .before .before), accepted-slots (a .order) (now (a .file))
+    (p .asked .accepted) .room)
 
 set-next-free-requires : tie.Need-set-next-free-requires
 set-next-free-requires c κs =
@@ -125,20 +137,24 @@ set-next-free-requires c κs =
     let ok = passed (c .before .before .before .before .before .before .before .before .before .before .before .before) in
     subst (λ (f : List ℕ). Slots (length f) (wordAt o f) × (highestEnd (wordAt o f) (firstWord (wordAt o f)) (wordAt o f 10) < 2147483648))
     (sym (put (c .before .before .before)))
-    (added-slots (a .order) (now (a .file)) (now (a .header)) (a .rows) (a .columns) (now (a .values)) (a .size) ok, omega (arith, added-small (a .order) (now (a .file)) (now (a .header)) (a .rows) (a .columns) (now (a .values)) (a .size) ok))
+    (added-slots (a .order) (now (a .file)) (now (a .header)) (a .rows) (a .columns) (now (a .values)) (a .size) ok, omega
+    (arith, added-small (a .order) (now (a .file)) (now (a .header)) (a .rows) (a .columns) (now (a .values)) (a .size) ok))
 
 survey-free-requires : tie.Need-survey-free-requires
 survey-free-requires c κs =
     let s = c .before .before .before .before .before .before .before .before .before .before .before .before .before .before .before .before .before .before .before .before in
     let a = s .args in
-    subst (Accepted (a .order)) (sym (left (c .before .before .before))) (added-accepted (a .order) (now (a .file)) (now (a .header)) (a .rows) (a .columns) (now (a .values)) (a .size) (passed (c .before .before .before .before .before .before .before .before .before .before .before .before .before .before .before .before)))
+    subst (Accepted (a .order)) (sym (left (c .before .before .before)))
+    (added-accepted (a .order) (now (a .file)) (now (a .header)) (a .rows) (a .columns) (now (a .values)) (a .size)
+    (passed (c .before .before .before .before .before .before .before .before .before .before .before .before .before .before .before .before)))
 
 returns : tie.Need-returns
 unfolding addStep
 returns c =
     let s = c .before .before .before .before .before in
     let a = s .args in
-    step-fault (firstFault (addRules (a .order) (now (a .file)) (length (now (a .header))) (a .rows) (a .columns) (length (now (a .values))) (a .size))) _ (a .order) (now (a .file)) _ _
+    step-fault (firstFault (addRules (a .order) (now (a .file)) (length (now (a .header))) (a .rows) (a .columns) (length (now (a .values))) (a .size))) _ (a .order)
+    (now (a .file)) _ _
     (sym (verdict-is s) ∙ c .before .verdict .given .1)
 
 same-length : tie.Need-same-length
@@ -150,8 +166,13 @@ returns-2 c =
     let a = c .before .before .before .before .before .before .before .before .before .before .before .before .before .before .before .before .before .before .before .before .before .args in
     let count = c .survey-free .result .count in
     ap (λ (x : Added). ((gives x, count), c .before .before .before .before .set-next-free .last .0))
-    (added-is (a .order) (now (a .file)) (a .rows) (a .columns) count _ _ (numbered (c .before .before .before .before .before .before .before .before .before .before .before .before .before .before .before .before .before)) (placed (c .before .before .before .before .before .before .before .before .before .before .before .before .before .before .before)))
-    ∙ step-pass (firstFault (addRules (a .order) (now (a .file)) (length (now (a .header))) (a .rows) (a .columns) (length (now (a .values))) (a .size))) (added (a .order) (now (a .file)) (a .rows) (a .columns)) (a .order) (now (a .file)) _ (passed (c .before .before .before .before .before .before .before .before .before .before .before .before .before .before .before .before .before)) _ (left (c .before .before .before .before)) _ (c .survey-free .ensures)
+    (added-is (a .order) (now (a .file)) (a .rows) (a .columns) count _ _
+    (numbered (c .before .before .before .before .before .before .before .before .before .before .before .before .before .before .before .before .before))
+    (placed (c .before .before .before .before .before .before .before .before .before .before .before .before .before .before .before)))
+    ∙ step-pass (firstFault (addRules (a .order) (now (a .file)) (length (now (a .header))) (a .rows) (a .columns) (length (now (a .values))) (a .size)))
+    (added (a .order) (now (a .file)) (a .rows) (a .columns)) (a .order) (now (a .file)) _
+    (passed (c .before .before .before .before .before .before .before .before .before .before .before .before .before .before .before .before .before)) _
+    (left (c .before .before .before .before)) _ (c .survey-free .ensures)
 
 pub add-at-spec : {M : Type 1} → statement M
 add-at-spec =

@@ -43,7 +43,8 @@ passed c = sym (c .before .before .delete-verdict .ensures) ∙ c .enum-told .gi
 
 -- the file when its slot is empty
 emptied : (c : tie.After-write-number)
-    → let a = c .before .before .before .before .before .before .before .args in c .write-number .last .1 .1 .0 ≡ setWord (a .order) (now (a .file)) (10 + a .number) emptySlot
+    → let a = c .before .before .before .before .before .before .before .args in c .write-number .last .1 .1 .0 ≡ setWord (a .order) (now (a .file)) (10 + a .number)
+    emptySlot
 unfolding setWord
 emptied c = c .write-number .ensures
 
@@ -52,7 +53,8 @@ left : (c : tie.After-set-next-free)
     → let a = c .before .before .before .before .before .before .before .before .before .before .before .args in
     c .set-next-free .last .0 ≡ withoutGrid (a .order) (now (a .file)) (a .number)
 unfolding withoutGrid
-left c = let a = c .before .before .before .before .before .before .before .before .before .before .before .args in c .set-next-free .ensures ∙ ap (nextFreeSet (a .order)) (emptied (c .before .before .before .before))
+left c = let a = c .before .before .before .before .before .before .before .before .before .before .before .args in c .set-next-free .ensures ∙ ap
+    (nextFreeSet (a .order)) (emptied (c .before .before .before .before))
 
 write-number-requires : tie.Need-write-number-requires
 write-number-requires c κs =
@@ -64,14 +66,16 @@ set-next-free-requires : tie.Need-set-next-free-requires
 set-next-free-requires c κs =
     let a = c .before .before .before .before .before .before .before .before .before .before .args in
     let pass = passed (c .before .before .before .before .before) in
-    subst (λ (f : List ℕ). Slots (length f) (wordAt (a .order) f) × (highestEnd (wordAt (a .order) f) (firstWord (wordAt (a .order) f)) (wordAt (a .order) f 10) < 2147483648))
+    subst (λ (f : List ℕ). Slots (length f) (wordAt (a .order) f) ×
+    (highestEnd (wordAt (a .order) f) (firstWord (wordAt (a .order) f)) (wordAt (a .order) f 10) < 2147483648))
     (sym (emptied (c .before .before .before)))
     (deleted-slots (a .order) (now (a .file)) (a .number) (a .size) pass, deleted-small (a .order) (now (a .file)) (a .number) (a .size) pass)
 
 survey-free-requires : tie.Need-survey-free-requires
 survey-free-requires c κs =
     let a = c .before .before .before .before .before .before .before .before .before .before .before .before .before .before .args in
-    subst (Accepted (a .order)) (sym (left (c .before .before .before))) (deleted-accepted (a .order) (now (a .file)) (a .number) (a .size) (passed (c .before .before .before .before .before .before .before .before .before)))
+    subst (Accepted (a .order)) (sym (left (c .before .before .before)))
+    (deleted-accepted (a .order) (now (a .file)) (a .number) (a .size) (passed (c .before .before .before .before .before .before .before .before .before)))
 
 same-length : tie.Need-same-length
 same-length c = search needs
@@ -80,7 +84,8 @@ returns : tie.Need-returns
 unfolding deleteStep
 returns c =
     let a = c .before .before .before .before .before .before .args in
-    step-fault (firstFault (deleteRules (a .order) (now (a .file)) (a .number) (a .size))) _ (a .order) (now (a .file)) _ _ (sym (c .before .before .before .delete-verdict .ensures) ∙ c .before .refusal .given .1)
+    step-fault (firstFault (deleteRules (a .order) (now (a .file)) (a .number) (a .size))) _ (a .order) (now (a .file)) _ _
+    (sym (c .before .before .before .delete-verdict .ensures) ∙ c .before .refusal .given .1)
 
 same-length-2 : tie.Need-same-length-2
 same-length-2 c = search needs
@@ -89,7 +94,8 @@ returns-2 : tie.Need-returns-2
 unfolding deleteStep
 returns-2 c =
     let a = c .before .before .before .before .before .before .before .before .before .before .before .before .before .before .before .args in
-    step-pass (firstFault (deleteRules (a .order) (now (a .file)) (a .number) (a .size))) _ (a .order) (now (a .file)) _ (passed (c .before .before .before .before .before .before .before .before .before .before)) _ (left (c .before .before .before .before)) _ (c .survey-free .ensures)
+    step-pass (firstFault (deleteRules (a .order) (now (a .file)) (a .number) (a .size))) _ (a .order) (now (a .file)) _
+    (passed (c .before .before .before .before .before .before .before .before .before .before)) _ (left (c .before .before .before .before)) _ (c .survey-free .ensures)
 
 pub delete-in-spec : {M : Type 1} → statement M
 delete-in-spec =

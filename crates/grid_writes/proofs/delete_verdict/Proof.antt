@@ -67,23 +67,28 @@ read-word-requires-2 : tie.Need-read-word-requires-2
 read-word-requires-2 c κs =
     let heads = pass-hold _ (sym (headed (c .before .before)) ∙ c .enum-told2 .given .1) in
     let a = c .before .before .before .before .before .before .before .before .before .before .args in
-    omega (arith, accepted-slots (a .order) (now (a .file)) (passed (c .before .before .before .before .before .before)) .room, within-exactly 1 (wordAt (a .order) (now (a .file)) 10) (a .number) .sound (heads .1 .0) .1)
+    omega (arith, accepted-slots (a .order) (now (a .file)) (passed (c .before .before .before .before .before .before)) .room, within-exactly 1
+    (wordAt (a .order) (now (a .file)) 10) (a .number) .sound (heads .1 .0) .1)
 
 check-requires-3 : tie.Need-check-requires-3
 check-requires-3 c κs = search needs
 
 returns : tie.Need-returns
-returns c = let a = c .before .before .before .before .before .args in delete-file (a .order) (now (a .file)) (a .number) (a .size) _ (sym (c .before .before .before .file-verdict .ensures) ∙ c .before .refusal .given .1)
+returns c = let a = c .before .before .before .before .before .args in delete-file (a .order) (now (a .file)) (a .number) (a .size) _
+    (sym (c .before .before .before .file-verdict .ensures) ∙ c .before .refusal .given .1)
 
 returns-2 : tie.Need-returns-2
 returns-2 c =
     let a = c .before .before .before .before .before .before .before .before .before .before .before .args in
-    delete-heads (a .order) (now (a .file)) (a .number) (a .size) (passed (c .before .before .before .before .before .before .before)) _ (sym (headed (c .before .before .before)) ∙ c .before .refusal2 .given .1)
+    delete-heads (a .order) (now (a .file)) (a .number) (a .size) (passed (c .before .before .before .before .before .before .before)) _
+    (sym (headed (c .before .before .before)) ∙ c .before .refusal2 .given .1)
 
 returns-3 : tie.Need-returns-3
 returns-3 c =
     let a = c .before .before .before .before .before .before .before .before .before .before .before .before .args in
-    rw (c .check3 .ensures, c .before .read-word2 .ensures) (delete-slot (a .order) (now (a .file)) (a .number) (a .size) (passed (c .before .before .before .before .before .before .before .before)) (sym (headed (c .before .before .before .before)) ∙ c .before .before .enum-told2 .given .1))
+    rw (c .check3 .ensures, c .before .read-word2 .ensures)
+    (delete-slot (a .order) (now (a .file)) (a .number) (a .size) (passed (c .before .before .before .before .before .before .before .before))
+    (sym (headed (c .before .before .before .before)) ∙ c .before .before .enum-told2 .given .1))
 
 pub delete-verdict-spec : {M : Type 1} → statement M
 delete-verdict-spec =

@@ -36,11 +36,13 @@ accepted : (c : tie.After-enum-told) → let a = c .before .before .before .befo
 accepted c = sym (c .before .before .file-verdict .ensures) ∙ c .enum-told .given .1
 
 -- and where the rules have
-passed : (c : tie.After-enum-told2) → let a = c .before .before .before .before .before .before .before .args in firstFault (addRules (a .order) (now (a .file)) (a .headers) (a .rows) (a .columns) (a .values) (a .size)) ≡ Pass
+passed : (c : tie.After-enum-told2) → let a = c .before .before .before .before .before .before .before .args in firstFault
+    (addRules (a .order) (now (a .file)) (a .headers) (a .rows) (a .columns) (a .values) (a .size)) ≡ Pass
 passed c = sym (c .before .before .add-verdict .ensures) ∙ c .enum-told2 .given .1
 
 -- the slot is one of at most 1,024
-slot-small : (c : tie.After-enum-told2) → let a = c .before .before .before .before .before .before .before .args in lowestEmpty (wordAt (a .order) (now (a .file))) < 1024
+slot-small : (c : tie.After-enum-told2) → let a = c .before .before .before .before .before .before .before .args in lowestEmpty (wordAt (a .order) (now (a .file)))
+    < 1024
 slot-small c =
     let a = c .before .before .before .before .before .before .before .args in
     let p = add-passes (a .order) (now (a .file)) (a .headers) (a .rows) (a .columns) (a .values) (a .size) .0 (passed c) in
@@ -87,22 +89,27 @@ sub-t24 : tie.Need-sub-t24
 unfolding survey
 sub-t24 c =
     let a = c .before .before .before .before .before .before .before .before .before .before .before .args in
-    omega (arith, pass-some (a .order) (now (a .file)) (a .headers) (a .rows) (a .columns) (a .values) (a .size) (passed (c .before .before .before .before)), ap (λ (s : Survey). s .count) (c .before .before .survey-free .ensures))
+    omega (arith, pass-some (a .order) (now (a .file)) (a .headers) (a .rows) (a .columns) (a .values) (a .size) (passed (c .before .before .before .before)), ap
+    (λ (s : Survey). s .count) (c .before .before .survey-free .ensures))
 
 returns : tie.Need-returns
 returns c =
     let a = c .before .before .before .before .before .before .args in
-    c .refused .ensures ∙ plan-fault (a .order) (now (a .file)) (a .headers) (a .rows) (a .columns) (a .values) (a .size) _ (sym (add-file (a .order) (now (a .file)) (a .headers) (a .rows) (a .columns) (a .values) (a .size) _ (sym (c .before .before .before .before .file-verdict .ensures) ∙ c .before .before .refusal .given .1)))
+    c .refused .ensures ∙ plan-fault (a .order) (now (a .file)) (a .headers) (a .rows) (a .columns) (a .values) (a .size) _
+    (sym (add-file (a .order) (now (a .file)) (a .headers) (a .rows) (a .columns) (a .values) (a .size) _
+    (sym (c .before .before .before .before .file-verdict .ensures) ∙ c .before .before .refusal .given .1)))
 
 returns-2 : tie.Need-returns-2
 returns-2 c =
     let a = c .before .before .before .before .before .before .before .before .before .args in
-    c .refused2 .ensures ∙ plan-fault (a .order) (now (a .file)) (a .headers) (a .rows) (a .columns) (a .values) (a .size) _ (sym (c .before .before .before .before .add-verdict .ensures) ∙ c .before .before .refusal2 .given .1)
+    c .refused2 .ensures ∙ plan-fault (a .order) (now (a .file)) (a .headers) (a .rows) (a .columns) (a .values) (a .size) _
+    (sym (c .before .before .before .before .add-verdict .ensures) ∙ c .before .before .refusal2 .given .1)
 
 returns-3 : tie.Need-returns-3
 returns-3 c =
     let a = c .before .before .before .before .before .before .before .before .before .before .before .args in
-    plan-pass (a .order) (now (a .file)) (a .headers) (a .rows) (a .columns) (a .values) (a .size) (passed (c .before .before .before .before)) _ (c .before .before .before .lowest-empty .ensures) _ (c .before .before .survey-free .ensures)
+    plan-pass (a .order) (now (a .file)) (a .headers) (a .rows) (a .columns) (a .values) (a .size) (passed (c .before .before .before .before)) _
+    (c .before .before .before .lowest-empty .ensures) _ (c .before .before .survey-free .ensures)
 
 pub plan-add-spec : {M : Type 1} → statement M
 plan-add-spec =

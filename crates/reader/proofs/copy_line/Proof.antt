@@ -43,13 +43,15 @@ module _ {M : Type 1} (𝓤 : URA M) (H : Heap 𝓤) (A : Atoms 𝓤) (W : Given
       assigns ! (of-opd ! (member ! 3 1 refl refl refl)) (from ! (stop !)) (init ! 13 refl (ts .1 .1 .0)) $
       -- the output is lent on
       lends-on ! 9 15 17 refl refl refl refl refl refl (tt, tt) refl refl refl (ts .1 .1 .1 .1 .1 .0) $
-      calls ! fm (λ u. raw (K u)) (and-then ! (at ! 11 refl) (and-then ! (at ! 13 refl) (and-then ! (at ! 5 refl) (and-then ! (at ! 7 refl) (and-then ! (at ! 17 refl) (no-more !)))))) (λ u.
+      calls ! fm (λ u. raw (K u)) (and-then ! (at ! 11 refl)
+      (and-then ! (at ! 13 refl) (and-then ! (at ! 5 refl) (and-then ! (at ! 7 refl) (and-then ! (at ! 17 refl) (no-more !)))))) (λ u.
       informs ! tt (says u) (λ typed. land ! (from ! (stop !)) (init ! 1 refl (typed .0)) $ returns ! (look ! 1 refl) $
       frees-all W ! (_ ∷ []) _ (holding (_ ∷ _ ∷ _ ∷ _ ∷ _ ∷ _ ∷ _ ∷ _ ∷ _ ∷ [])) (done !))))
 
 pub copy-line-spec : {M : Type 1} → statement M
 unfolding code.routine
 copy-line-spec 𝓤 H 𝓜 𝓖 𝓡 =
-    opened 𝓤 H 𝓜 𝓖 𝓡 beside answer code.env (callee.clauses 𝓤 H (𝓖 .A) (𝓜 .mem) (𝓡 .run)) (λ κs a. self.clauses 𝓤 H (𝓖 .A) (𝓜 .mem) (𝓡 .run) κs a .ensures) (λ κs a g x e. id⊢ 𝓤 _)
+    opened 𝓤 H 𝓜 𝓖 𝓡 beside answer code.env (callee.clauses 𝓤 H (𝓖 .A) (𝓜 .mem) (𝓡 .run)) (λ κs a.
+    self.clauses 𝓤 H (𝓖 .A) (𝓜 .mem) (𝓡 .run) κs a .ensures) (λ κs a g x e. id⊢ 𝓤 _)
     callee-def.name callee-def.routine code.calls-area-lines·copy-line (callee-met.met 𝓤 H 𝓜 𝓖 𝓡)
     key.name code.function (code.unfolded 𝓤 H 𝓜 𝓡) (walk 𝓤 H (𝓖 .A) (givenOf 𝓤 H 𝓜 𝓖))

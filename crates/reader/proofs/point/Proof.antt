@@ -47,6 +47,7 @@ module _ {M : Type 1} (𝓤 : URA M) (H : Heap 𝓤) (A : Atoms 𝓤) (W : Given
 pub point-spec : {M : Type 1} → statement M
 unfolding code.routine
 point-spec 𝓤 H 𝓜 𝓖 𝓡 =
-    opened 𝓤 H 𝓜 𝓖 𝓡 beside answer code.env (callee.clauses 𝓤 H (𝓖 .A) (𝓜 .mem) (𝓡 .run)) (λ κs a. self.clauses 𝓤 H (𝓖 .A) (𝓜 .mem) (𝓡 .run) κs a .ensures) (λ κs a g x e. id⊢ 𝓤 _)
+    opened 𝓤 H 𝓜 𝓖 𝓡 beside answer code.env (callee.clauses 𝓤 H (𝓖 .A) (𝓜 .mem) (𝓡 .run)) (λ κs a.
+    self.clauses 𝓤 H (𝓖 .A) (𝓜 .mem) (𝓡 .run) κs a .ensures) (λ κs a g x e. id⊢ 𝓤 _)
     callee-def.name callee-def.routine code.calls-values·read-point (callee-met.met 𝓤 H 𝓜 𝓖 𝓡)
     key.name code.function (code.unfolded 𝓤 H 𝓜 𝓡) (walk 𝓤 H (𝓖 .A) (givenOf 𝓤 H 𝓜 𝓖))

@@ -39,7 +39,8 @@ module _ {M : Type 1} (𝓤 : URA M) (H : Heap 𝓤) (A : Atoms 𝓤) (W : Given
   walk κs a ts K K₁ K′ goes-on says =
       qed W (raw (C new-def.name _ K) ∷ []) ∵ starts W ! C Λ code.function (passed-as κs (bytes ∷ layout ∷ beside) a) K′ ts (λ l.
       -- [the call; _0; …; _6; …]: local j stands at 1 + 2 · j
-      calls ! fm (λ w. raw (K w)) (and-then ! (at ! 3 refl) (and-then ! (at ! 5 refl) (no-more !))) (λ w. informs ! tt (goes-on w) (λ typed. land ! (from ! (stop !)) (init ! 13 refl (typed .0)) $
+      calls ! fm (λ w. raw (K w)) (and-then ! (at ! 3 refl) (and-then ! (at ! 5 refl) (no-more !))) (λ w. informs ! tt (goes-on w) (λ typed.
+      land ! (from ! (stop !)) (init ! 13 refl (typed .0)) $
       calls ! fm (λ u. raw (K₁ u)) (and-then ! (at ! 13 refl) (and-then ! (at ! 7 refl) (and-then ! (at ! 9 refl) (and-then ! (at ! 11 refl) (no-more !))))) (λ u.
       informs ! tt (says u) (λ typed′. land ! (from ! (stop !)) (init ! 1 refl (typed′ .0)) $ returns ! (look ! 1 refl) $
       frees-all W ! (_ ∷ []) _ (holding (_ ∷ _ ∷ _ ∷ _ ∷ _ ∷ _ ∷ _ ∷ [])) (done !))))))
@@ -47,6 +48,8 @@ module _ {M : Type 1} (𝓤 : URA M) (H : Heap 𝓤) (A : Atoms 𝓤) (W : Given
 pub read-through-spec : {M : Type 1} → statement M
 unfolding code.routine
 read-through-spec 𝓤 H 𝓜 𝓖 𝓡 =
-    passed 𝓤 H 𝓜 𝓖 𝓡 code.env beside answer (read_sample.clauses 𝓤 H (𝓖 .A) (𝓜 .mem) (𝓡 .run)) (λ κs a. self.clauses 𝓤 H (𝓖 .A) (𝓜 .mem) (𝓡 .run) κs a .ensures) (λ κs a g x e. id⊢ 𝓤 _)
+    passed 𝓤 H 𝓜 𝓖 𝓡 code.env beside answer (read_sample.clauses 𝓤 H (𝓖 .A) (𝓜 .mem) (𝓡 .run)) (λ κs a.
+    self.clauses 𝓤 H (𝓖 .A) (𝓜 .mem) (𝓡 .run) κs a .ensures) (λ κs a g x e. id⊢ 𝓤 _)
     new-def.name new-def.routine code.calls-reader·new (new-met.met 𝓤 H 𝓜 𝓖 𝓡)
-    sample-def.name sample-def.routine code.calls-reader·sample (sample-met.met 𝓤 H 𝓜 𝓖 𝓡) key.name code.function (code.unfolded 𝓤 H 𝓜 𝓡) (walk 𝓤 H (𝓖 .A) (givenOf 𝓤 H 𝓜 𝓖))
+    sample-def.name sample-def.routine code.calls-reader·sample (sample-met.met 𝓤 H 𝓜 𝓖 𝓡) key.name code.function (code.unfolded 𝓤 H 𝓜 𝓡)
+    (walk 𝓤 H (𝓖 .A) (givenOf 𝓤 H 𝓜 𝓖))

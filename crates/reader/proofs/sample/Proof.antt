@@ -40,13 +40,15 @@ module _ {M : Type 1} (𝓤 : URA M) (H : Heap 𝓤) (A : Atoms 𝓤) (W : Given
       -- [the call; _0; …; _6; …]: local j stands at 1 + 2 · j
       assigns ! (of-opd ! (member ! 3 0 refl refl refl)) (from ! (stop !)) (init ! 11 refl (ts .1 .0)) $
       assigns ! (of-opd ! (member ! 3 1 refl refl refl)) (from ! (stop !)) (init ! 13 refl (ts .1 .1 .0)) $
-      calls ! fm (λ u. raw (K u)) (and-then ! (at ! 11 refl) (and-then ! (at ! 13 refl) (and-then ! (at ! 5 refl) (and-then ! (at ! 7 refl) (and-then ! (at ! 9 refl) (no-more !)))))) (λ u.
+      calls ! fm (λ u. raw (K u)) (and-then ! (at ! 11 refl)
+      (and-then ! (at ! 13 refl) (and-then ! (at ! 5 refl) (and-then ! (at ! 7 refl) (and-then ! (at ! 9 refl) (no-more !)))))) (λ u.
       informs ! tt (says u) (λ typed. land ! (from ! (stop !)) (init ! 1 refl (typed .0)) $ returns ! (look ! 1 refl) $
       frees-all W ! (_ ∷ []) _ (holding (_ ∷ _ ∷ _ ∷ _ ∷ _ ∷ _ ∷ _ ∷ [])) (done !))))
 
 pub sample-spec : {M : Type 1} → statement M
 unfolding code.routine
 sample-spec 𝓤 H 𝓜 𝓖 𝓡 =
-    opened 𝓤 H 𝓜 𝓖 𝓡 beside answer code.env (callee.clauses 𝓤 H (𝓖 .A) (𝓜 .mem) (𝓡 .run)) (λ κs a. self.clauses 𝓤 H (𝓖 .A) (𝓜 .mem) (𝓡 .run) κs a .ensures) (λ κs a g x e. id⊢ 𝓤 _)
+    opened 𝓤 H 𝓜 𝓖 𝓡 beside answer code.env (callee.clauses 𝓤 H (𝓖 .A) (𝓜 .mem) (𝓡 .run)) (λ κs a.
+    self.clauses 𝓤 H (𝓖 .A) (𝓜 .mem) (𝓡 .run) κs a .ensures) (λ κs a g x e. id⊢ 𝓤 _)
     callee-def.name callee-def.routine code.calls-values·read-sample (callee-met.met 𝓤 H 𝓜 𝓖 𝓡)
     key.name code.function (code.unfolded 𝓤 H 𝓜 𝓡) (walk 𝓤 H (𝓖 .A) (givenOf 𝓤 H 𝓜 𝓖))

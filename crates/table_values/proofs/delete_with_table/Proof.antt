@@ -18,7 +18,8 @@ use ghost.Atoms.{Atoms, sem}
 use contract.Lifetimes.{Lfts, Shares}
 use contract.Monad.{Fun, fact}
 use contract.Running.{givenOf, tables, tablesOf}
-use types.Kit.{Given, ‵, raw, _⊛_, given, some, later, _$_, _∵_, !, qed, move, keep, drop, use1, use2, split, join, pick, learn, fsplit, fjoin, show, frame, await, done}
+use types.Kit.{Given, ‵, raw, _⊛_, given, some, later, _$_, _∵_, !, qed, move, keep, drop, use1, use2, split, join, pick, learn, fsplit, fjoin, show, frame, await}
+use types.Kit.{done}
 use types.Part.{agg, rep}
 use types.Run.{look, init, stop, from, lit, addr, of-opd, and-then, no-more, assigns, calls, land, returns as ends}
 use sound.WpLaws.{FmC, fmOf}
@@ -31,7 +32,7 @@ use denote.Enum.Laws as EL
 use denote.Struct.Laws as LL
 use denote.Triple.Clauses.{Lasts, atExit, lasts}
 use denote.Triple.Entry.{Args, Vals}
-use denote.Triple.Statement.{Triple, FmF}
+use denote.Triple.Statement.{Triple}
 use denote.Triple.Table.{entered, cited}
 use denote.Triple.Walked.{says}
 use Rattle.extents.specs.Stretches.{none}
@@ -129,11 +130,10 @@ module _ {M : Type 1} (𝓤 : URA M) (H : Heap 𝓤) (A : Atoms 𝓤) (mem : Mem
           move ! (1 ∷ 0 ∷ []) $ fjoin ! $ move ! (1 ∷ 0 ∷ []) $ fjoin ! $ move ! (1 ∷ 0 ∷ []) $ join ! $ frame ! $ done !
 
       returns : Returns 𝓤 H A call y b (to b)
-      returns ν γ r =
-          qed W ((‵ (flft (κs .0) (qs .0)) ⊛ ‵ (flft (ν ∷ []) fullShare) ⊛ ‵ ftrue) ∷
-          some (λ (ws : Lasts callee.ended (λs b ν γ) (args b ν γ)).
-          ‵ (lasts callee.ended (λs b ν γ) (args b ν γ) ws) ⊛ raw (fact 𝓤 (Said r (ws .0) (ws .1 .1 .1 .0)))) ∷ []) ∵
-          move ! (1 ∷ []) $ pick ! (λ ws. split ! $ move ! (1 ∷ []) $ heard ! (Said r (ws .0) (ws .1 .1 .1 .0)) (λ eq.
+      returns ν γ r ws =
+          qed W (raw (fact 𝓤 (Said r (ws .0) (ws .1 .1 .1 .0))) ∷ (‵ (flft (κs .0) (qs .0)) ⊛ ‵ (flft (ν ∷ []) fullShare) ⊛ ‵ ftrue) ∷ ‵
+          (lasts callee.ended (λs b ν γ) (args b ν γ) ws) ∷ []) ∵
+          heard ! (Said r (ws .0) (ws .1 .1 .1 .0)) (λ eq. move ! (1 ∷ []) $
           fsplit ! $ move ! (1 ∷ []) $ fsplit ! $ drop ! $ fsplit ! $ drop ! $ fsplit ! $ fsplit ! $ move ! (4 ∷ []) $ split ! $ move ! (1 ∷ []) $ split ! $
           -- [ν's token; true; the token; the last table; its length; true; the last bytes]
           show ! (Left 𝓤 H A call y b (to b) ν γ r) (ws .1 .1 .1 .0) $ move ! (0 ∷ 3 ∷ []) $ join ! $ frame ! $ move ! (1 ∷ 0 ∷ []) $ join ! $ frame ! $
@@ -141,12 +141,13 @@ module _ {M : Type 1} (𝓤 : URA M) (H : Heap 𝓤) (A : Atoms 𝓤) (mem : Mem
           show ! (λ (zs : Lasts self.ended κs a). sep 𝓤 (sem 𝓤 H A (lasts self.ended κs a zs))
           (self.clauses 𝓤 H A mem run κs a .ensures tt (record { answer = r; table = ws .1 .1 .1 .0 }) (atExit self.ended κs a zs)))
           (ws .0, (tt, (tt, tt))) $
-          says ! eq $ nothing ! $ nothing ! $ fjoin ! $ nothing ! $ fjoin ! $ move ! (1 ∷ 0 ∷ []) $ fjoin ! $ done !))
+          says ! eq $ nothing ! $ nothing ! $ fjoin ! $ nothing ! $ fjoin ! $ move ! (1 ∷ 0 ∷ []) $ fjoin ! $ done !)
 
       -- with the callee's theorem
-      calls-lent : (f : Fun 𝓤) → FmF 𝓤 f → Triple 𝓤 f (Callee 𝓤 H A call)
-          → ent 𝓤 (sep 𝓤 (Own 𝓤 H A call .pre y) (H .at fullShare τ b 0 fresh-val)) (H .⇛ (f (passed κs a b) (Landed 𝓤 H A handed b (Own 𝓤 H A call .post y))))
-      calls-lent f fm known = lends-call 𝓤 H A call y b (to b) W lends returns f fm (passed κs a b) (λ ν γ. known (to b ν γ))
+      calls-lent : (C : Calls 𝓤 H) → FmC 𝓤 H (W .laws) C → Triple 𝓤 (C callee-def.name) (Callee 𝓤 H A call)
+          → ent 𝓤 (sep 𝓤 (Own 𝓤 H A call .pre y) (H .at fullShare τ b 0 fresh-val))
+          (H .⇛ (C callee-def.name (passed κs a b) (Landed 𝓤 H A handed b (Own 𝓤 H A call .post y))))
+      calls-lent C fm known = lends-call 𝓤 H A call y b (to b) W C fm callee-def.name known lends returns (passed κs a b) (λ ν γ. refl)
 
 module _ {M : Type 1} (𝓤 : URA M) (H : Heap 𝓤) (A : Atoms 𝓤) (W : Given 𝓤 H A) (C : Calls 𝓤 H) (Λ : Loops 𝓤 H) (fm : FmC 𝓤 H (W .laws) C) where
   walk : (κs : Lfts 1) (a : Args self.signature κs) → Related κs params a
@@ -166,7 +167,8 @@ module _ {M : Type 1} (𝓤 : URA M) (H : Heap 𝓤) (A : Atoms 𝓤) (W : Given
       -- the table is lent
       move ! (0 ∷ 9 ∷ []) $ use2 W (later (raw (C callee-def.name (passed κs a b) (Landed 𝓤 H A handed b K)))) (lent-out b) $ await ! tt $
       -- [the call; _0; …; the end of _4; _5; …]: a local j behind _4 stands at 2 · j
-      calls ! fm (λ w. raw (Landed 𝓤 H A handed b K w)) (and-then ! (at-local ! 16 refl) (and-then ! (at-local ! 5 refl) (and-then ! (at-local ! 7 refl) (and-then ! (at-local ! 20 refl) (no-more !))))) (λ w.
+      calls ! fm (λ w. raw (Landed 𝓤 H A handed b K w)) (and-then ! (at-local ! 16 refl)
+      (and-then ! (at-local ! 5 refl) (and-then ! (at-local ! 7 refl) (and-then ! (at-local ! 20 refl) (no-more !))))) (λ w.
       use1 W (later (some (λ (v : Val). given (Types 𝓤 H A handed w v) (‵ (fat fullShare τ b 0 v) ⊛ raw (K (pair w v)))))) (id⊢ 𝓤 _) $
       await ! tt $ pick ! (λ v. learn ! (λ ts. split ! $ move ! (1 ∷ 2 ∷ 3 ∷ 4 ∷ 5 ∷ 6 ∷ 7 ∷ 8 ∷ 9 ∷ []) $
       -- [what is owed; _0; …]: local j stands at 1 + 2 · j
@@ -188,4 +190,4 @@ delete-with-table-spec 𝓤 H 𝓜 𝓖 𝓡 =
     (entering 𝓤 H (𝓖 .A) self.ended (k .clauses) (λ κs. spells κs params) (λ κs. tells κs params)
     (WpFn 𝓤 H C Λ code.function)
     (λ x g are. walk 𝓤 H (𝓖 .A) W C Λ fm (x .0) (x .3) are _ _ (λ b.
-    calls-lent 𝓤 H (𝓖 .A) (𝓜 .mem) (𝓡 .run) (x .0) (x .1) (x .3) W b (C callee-def.name) (fm callee-def.name) known)))
+    calls-lent 𝓤 H (𝓖 .A) (𝓜 .mem) (𝓡 .run) (x .0) (x .1) (x .3) W b C fm known)))
