@@ -171,11 +171,11 @@ pub add-refuses-10 : (o : Order) (f header : List ℕ) (rows columns : ℕ) (val
 unfolding addGrid addRules
 add-refuses-10 o f header rows columns values t =
     let x =
-        changed-fault (firstFault (addRules o f (length header) rows columns (length values) (length t))) (added o f rows columns) o f
-        (withGrid o f header rows columns values) t (refusal 10) in
+    changed-fault (firstFault (addRules o f (length header) rows columns (length values) (length t))) (added o f rows columns) o f
+    (withGrid o f header rows columns values) t (refusal 10) in
     let y =
-        table-exactly o f (length t) (behindFirst (addOwn o f (length header) rows columns (length values) (length t)))
-        (λ e. omega (arith, e), (λ e. omega (arith, e), (λ e. omega (arith, e), (λ e. omega (arith, e), (λ e. omega (arith, e), (λ e. omega (arith, e), tt)))))) in
+    table-exactly o f (length t) (behindFirst (addOwn o f (length header) rows columns (length values) (length t)))
+    (λ e. omega (arith, e), (λ e. omega (arith, e), (λ e. omega (arith, e), (λ e. omega (arith, e), (λ e. omega (arith, e), (λ e. omega (arith, e), tt)))))) in
     (λ e. y .0 (x .0 e), λ h. x .1 (y .1 h))
 
 -- so a table of 1,025 pairs is long enough for every file

@@ -45,7 +45,7 @@ module _ (o : Order) (f : List ℕ) (headers rows columns values size : ℕ) whe
 
   -- its number is that of the slot
   pub plan-number : firstFault (addRules o f headers rows columns values size) ≡ Pass → addPlan o f headers rows columns values size .number ≡ lowestEmpty
-    (wordAt o f) + 1
+      (wordAt o f) + 1
   unfolding addPlan
   plan-number e = rw e
 

@@ -59,7 +59,7 @@ loop-again c =
       (
         i .inv .1 .0,
         ⊎-elim (λ t. t .1 ∙ highest-taken w (i .k) _ slot _ (i .high) (i .inv .1 .1) (t .0 .taken))
-        (λ t. t .1 ∙ highest-left w (i .k) _ slot _ (i .high) (i .inv .1 .1) (t .0 .left)) (c .if1 .came),
+            (λ t. t .1 ∙ highest-left w (i .k) _ slot _ (i .high) (i .inv .1 .1) (t .0 .left)) (c .if1 .came),
       ),
     )
 

@@ -115,8 +115,14 @@ mul-write-number c = search needs
 cast-write-number-2 : tie.Need-cast-write-number-2
 cast-write-number-2 c =
     let a = c .before .before .before .before .before .before .before .before .before .before .before .before .args in
-    record { fits = omega (arith, add-place (a .order) (now (a .file)) (now (a .header)) (a .rows) (a .columns) (now (a .values)) (a .size)
-    (passed (c .before .before .before .before .before .before .before .before)) .by-last, placed (c .before .before .before .before .before .before)) }
+    record {
+      fits = omega (
+        arith,
+        add-place (a .order) (now (a .file)) (now (a .header)) (a .rows) (a .columns) (now (a .values)) (a .size)
+            (passed (c .before .before .before .before .before .before .before .before)) .by-last,
+        placed (c .before .before .before .before .before .before),
+      );
+    }
 
 write-number-requires : tie.Need-write-number-requires
 write-number-requires c κs =
@@ -126,8 +132,14 @@ write-number-requires c κs =
     let same : length (c .before .before .before .before .write-grid .last .0) ≡ length (now (a .file)) = ap length (written (c .before .before .before .before)) ∙
     length-sets (now (a .file)) (4 * newAddress (a .order) (now (a .file)) (now (a .header)) (a .rows) (a .columns) (now (a .values)))
     (newBytes (a .order) (now (a .file)) (now (a .header)) (a .rows) (a .columns) (now (a .values))) in
-    omega (arith, same, p .slot, numbered (c .before .before .before .before .before .before .before .before), accepted-slots (a .order) (now (a .file))
-    (p .asked .accepted) .room)
+    omega (
+      arith,
+      same,
+      p .slot,
+      numbered (c .before .before .before .before .before .before .before .before),
+      accepted-slots (a .order) (now (a .file))
+          (p .asked .accepted) .room,
+    )
 
 set-next-free-requires : tie.Need-set-next-free-requires
 set-next-free-requires c κs =
@@ -136,9 +148,11 @@ set-next-free-requires c κs =
     let o = a .order in
     let ok = passed (c .before .before .before .before .before .before .before .before .before .before .before .before) in
     subst (λ (f : List ℕ). Slots (length f) (wordAt o f) × (highestEnd (wordAt o f) (firstWord (wordAt o f)) (wordAt o f 10) < 2147483648))
-    (sym (put (c .before .before .before)))
-    (added-slots (a .order) (now (a .file)) (now (a .header)) (a .rows) (a .columns) (now (a .values)) (a .size) ok, omega
-    (arith, added-small (a .order) (now (a .file)) (now (a .header)) (a .rows) (a .columns) (now (a .values)) (a .size) ok))
+    (sym (put (c .before .before .before))) (
+      added-slots (a .order) (now (a .file)) (now (a .header)) (a .rows) (a .columns) (now (a .values)) (a .size) ok,
+      omega
+          (arith, added-small (a .order) (now (a .file)) (now (a .header)) (a .rows) (a .columns) (now (a .values)) (a .size) ok),
+    )
 
 survey-free-requires : tie.Need-survey-free-requires
 survey-free-requires c κs =

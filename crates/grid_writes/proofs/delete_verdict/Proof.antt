@@ -67,8 +67,12 @@ read-word-requires-2 : tie.Need-read-word-requires-2
 read-word-requires-2 c κs =
     let heads = pass-hold _ (sym (headed (c .before .before)) ∙ c .enum-told2 .given .1) in
     let a = c .before .before .before .before .before .before .before .before .before .before .args in
-    omega (arith, accepted-slots (a .order) (now (a .file)) (passed (c .before .before .before .before .before .before)) .room, within-exactly 1
-    (wordAt (a .order) (now (a .file)) 10) (a .number) .sound (heads .1 .0) .1)
+    omega (
+      arith,
+      accepted-slots (a .order) (now (a .file)) (passed (c .before .before .before .before .before .before)) .room,
+      within-exactly 1
+          (wordAt (a .order) (now (a .file)) 10) (a .number) .sound (heads .1 .0) .1,
+    )
 
 check-requires-3 : tie.Need-check-requires-3
 check-requires-3 c κs = search needs

@@ -89,8 +89,12 @@ sub-t24 : tie.Need-sub-t24
 unfolding survey
 sub-t24 c =
     let a = c .before .before .before .before .before .before .before .before .before .before .before .args in
-    omega (arith, pass-some (a .order) (now (a .file)) (a .headers) (a .rows) (a .columns) (a .values) (a .size) (passed (c .before .before .before .before)), ap
-    (λ (s : Survey). s .count) (c .before .before .survey-free .ensures))
+    omega (
+      arith,
+      pass-some (a .order) (now (a .file)) (a .headers) (a .rows) (a .columns) (a .values) (a .size) (passed (c .before .before .before .before)),
+      ap
+          (λ (s : Survey). s .count) (c .before .before .survey-free .ensures),
+    )
 
 returns : tie.Need-returns
 returns c =

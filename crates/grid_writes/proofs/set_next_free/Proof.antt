@@ -32,8 +32,11 @@ same-length c = search needs
 
 returns : tie.Need-returns
 unfolding nextFreeSet setWord
-returns c = rw (c .before .before .write-number .ensures, c .before .before .before .before .highest-end .ensures,
-    c .before .before .before .before .before .before .read-word .ensures)
+returns c = rw (
+  c .before .before .write-number .ensures,
+  c .before .before .before .before .highest-end .ensures,
+  c .before .before .before .before .before .before .read-word .ensures,
+)
 
 pub set-next-free-spec : {M : Type 1} → statement M
 set-next-free-spec =
