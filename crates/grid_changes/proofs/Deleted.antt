@@ -16,12 +16,12 @@ use Rattle.refusal.specs.Rules.{Rule, judge, first, firstFault}
 use Rattle.refusal.specs.Answers.{refuses}
 use Rattle.refusal.specs.Tests.{within}
 use Rattle.refusal.specs.declared.Verdict.the-variants.{Pass}
-use Rattle.refusal.proofs.Exactness.{le-exactly, eq-exactly, not-exactly, within-exactly}
+use Rattle.refusal.proofs.Exactness.{le-exactly, within-exactly}
 use Rattle.refusal.proofs.Tables.{pass-hold, hold-pass, pass-joined, joined-pass}
 use Rattle.grid_rules.specs.Rules.{emptySlot, gridEnd, fileRules, wantedRules}
 use Rattle.grid_rules.specs.Accepts.{Full}
 use Rattle.grid_rules.specs.Opening.{openWanted, openGrid}
-use Rattle.grid_rules.proofs.Acceptance.{GridAt, number-grid, file-passes, open-split}
+use Rattle.grid_rules.proofs.Acceptance.{GridAt, number-grid, file-passes, open-split, wanted-exactly}
 use Rattle.extents.specs.Stretches.{highestEnd, firstWord}
 use Rattle.extents.specs.Steps.{Accepted, Slots}
 use Rattle.grid_changes.specs.Changes.{setWord, nextFreeSet, deleteOwn, deleteRules, withoutGrid}
@@ -40,27 +40,21 @@ pub record Deletes (o : Order) (f : List ℕ) (number size : ℕ) : Type 0 where
 
 -- the rules of deleting pass exactly there
 pub delete-passes : (o : Order) (f : List ℕ) (number size : ℕ) → (firstFault (deleteRules o f number size) ≡ Pass) ↔ Deletes o f number size
-unfolding deleteRules wantedRules
+unfolding deleteRules
 delete-passes o f number size =
     let w : ℕ → ℕ = wordAt o f in
     let file : List Rule = fileRules (length f) w in
     let rest : List Rule = deleteOwn w number size in
     let table = le-exactly (w 10 + 1) size in
-    let range = within-exactly 1 (w 10) number in
-    let full = not-exactly (eq-exactly (w (10 + number)) emptySlot) in (
+    let wanted = wanted-exactly w number in (
       λ e.
           let p = joined-pass file rest e in
           let h = pass-hold rest (p .1) in
-          record {
-            accepted = p .0;
-            table = table .sound (h .0);
-            from = range .sound (h .1 .0) .0;
-            to = range .sound (h .1 .0) .1;
-            full = full .sound (h .1 .1 .0);
-          },
+          let x = wanted .0 (h .1) in
+          record { accepted = p .0; table = table .sound (h .0); from = x .0 .0; to = x .0 .1; full = x .1 },
       λ d.
           sym (pass-joined file rest (d .accepted))
-          ∙ hold-pass rest (table .complete (d .table), (range .complete (d .from, d .to), (full .complete (d .full), tt))),
+          ∙ hold-pass rest (table .complete (d .table), wanted .1 ((d .from, d .to), d .full)),
     )
 
 -- a file is as long as it was once a word is set, and then the next free word

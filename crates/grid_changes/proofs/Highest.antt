@@ -8,7 +8,7 @@ use mathlib.Core.List.{List}
 use Prim.Native.Nat.{ℕ, zero, suc, _+_, _*_, _/_, _^_, _≤_, _<_}
 use native.Mathlib.Decide.{ℕ-discrete}
 use native.Mathlib.Omega.{arith}
-use lib.Dec.{ltb, eqb}
+use lib.Dec.{ltb}
 use lib.ListN.{length, getD}
 use borrow.Author.Tests.{ltb-true, ltb-false, eqb-true, eqb-false, eq-eqb, ne-eqb}
 use Rattle.lists.specs.Choices.{pick}
@@ -16,15 +16,12 @@ use Rattle.lists.specs.Lists.{Outside}
 use Rattle.endian.specs.Words.{wordAt}
 use Rattle.endian.specs.declared.Order.{Order}
 use Rattle.endian.proofs.Signs.{signed-at-least}
-use Rattle.refusal.specs.Rules.{judge, first, firstFault}
-use Rattle.refusal.specs.Tests.{within}
 use Rattle.refusal.specs.declared.Verdict.the-variants.{Pass}
-use Rattle.refusal.proofs.Exactness.{within-exactly}
-use Rattle.grid_rules.specs.Rules.{nextFree, emptySlot, isEmpty, gridEnd, wantedRules}
+use Rattle.grid_rules.specs.Rules.{nextFree, emptySlot, isEmpty, gridEnd}
 use Rattle.grid_rules.specs.Accepts.{Full, AcceptsFile}
-use Rattle.grid_rules.specs.Opening.{layoutOf, openWanted, openGrid}
+use Rattle.grid_rules.specs.Opening.{openGrid}
 use Rattle.grid_rules.proofs.Acceptance.{GridAt, slot-grid, file-passes, open-split}
-use Rattle.grid_rules.proofs.Footprint.{SameAt, SameSlot}
+use Rattle.grid_rules.proofs.Footprint.{SameAt, SameSlot, wanted-same}
 use Rattle.extents.specs.Stretches.{endOf, slotExtent, highestEnd, firstWord}
 use Rattle.extents.specs.Steps.{Accepted, Slots}
 use Rattle.grid_changes.specs.Changes.{nextFreeSet}
@@ -357,22 +354,6 @@ accepted-laid o f e = accepts-laid (length f) (wordAt o f) (file-passes (length 
 
 -- ---- opening
 
-wanted-alike : (o : Order) (len : ℕ) (w v : ℕ → ℕ) (number : ℕ) → v 10 ≡ w 10 → (1 ≤ number → number ≤ w 10 → SameAt w v (10 + number))
-    → openWanted o len v number ≡ openWanted o len w number
-unfolding openWanted wantedRules layoutOf firstFault judge first
-wanted-alike o len w v number count same = step (within 1 (w 10) number) (eqb (w (10 + number)) emptySlot) refl refl
-  where
-    same-at : within 1 (w 10) number ≡ true → SameAt w v (10 + number)
-    same-at e = let range : (1 ≤ number) × (number ≤ w 10) = within-exactly 1 (w 10) number .sound e in same (range .0) (range .1)
-
-    step : (t u : Bool) → within 1 (w 10) number ≡ t → eqb (w (10 + number)) emptySlot ≡ u → openWanted o len v number ≡ openWanted o len w number
-    step false u e q = rw (count, e)
-    step true true e q = rw (count, e, same-at e .offset, q)
-    step true false e q =
-        let full : ¬ (w (10 + number) ≡ emptySlot) = eqb-false (w (10 + number)) emptySlot q in
-        let x : SameAt w v (10 + number) = same-at e in
-        rw (count, x .offset, x .rows full, x .columns full)
-
 -- Of two accepted files of one length with one n, which agree in what opening reads of the grid of a number, that grid opens alike. So does a number that
 -- neither file has.
 pub open-alike : (o : Order) (f g : List ℕ) → length g ≡ length f → Accepted o f → Accepted o g → wordAt o g 10 ≡ wordAt o f 10
@@ -381,5 +362,5 @@ pub open-alike : (o : Order) (f g : List ℕ) → length g ≡ length f → Acce
 unfolding openGrid
 open-alike o f g size ef eg count number same =
     open-split o (length g) (wordAt o g) number Pass eg
-    ∙ rw size (wanted-alike o (length f) (wordAt o f) (wordAt o g) number count same)
+    ∙ rw size (wanted-same (wordAt o f) (wordAt o g) o (length f) number count same)
     ∙ sym (open-split o (length f) (wordAt o f) number Pass ef)

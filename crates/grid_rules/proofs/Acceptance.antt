@@ -109,8 +109,8 @@ file-passes len w = (
   λ a. hold-pass (fileRules len w) (file-exactly len w .1 a),
 )
 
--- the rules of the wanted grid
-wanted-exactly : (w : ℕ → ℕ) (number : ℕ) → Hold (wantedRules w number) ↔ (((1 ≤ number) × (number ≤ w 10)) × ¬ (w (10 + number) ≡ emptySlot))
+-- the rules of the wanted grid hold exactly where the file has its number, and its slot is not empty
+pub wanted-exactly : (w : ℕ → ℕ) (number : ℕ) → Hold (wantedRules w number) ↔ (((1 ≤ number) × (number ≤ w 10)) × ¬ (w (10 + number) ≡ emptySlot))
 unfolding wantedRules
 wanted-exactly w number =
     let range = within-exactly 1 (w 10) number in

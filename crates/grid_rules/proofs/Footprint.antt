@@ -91,6 +91,24 @@ module _ (w v : ℕ → ℕ) where
 
 -- ---- of a whole file
 
+-- the grid of a number, of two files of one n that agree in what opening reads of it: a number that the files have not is refused alike, and so is that of an empty
+-- slot
+pub wanted-same : (w v : ℕ → ℕ) (o : Order) (len number : ℕ) → v 10 ≡ w 10 → (1 ≤ number → number ≤ w 10 → SameAt w v (10 + number))
+    → openWanted o len v number ≡ openWanted o len w number
+unfolding openWanted wantedRules layoutOf firstFault judge first
+wanted-same w v o len number count same = step (within 1 (w 10) number) (eqb (w (10 + number)) emptySlot) refl refl
+  where
+    same-at : within 1 (w 10) number ≡ true → SameAt w v (10 + number)
+    same-at e = let range : (1 ≤ number) × (number ≤ w 10) = within-exactly 1 (w 10) number .sound e in same (range .0) (range .1)
+
+    step : (t u : Bool) → within 1 (w 10) number ≡ t → eqb (w (10 + number)) emptySlot ≡ u → openWanted o len v number ≡ openWanted o len w number
+    step false u e q = rw (count, e)
+    step true true e q = rw (count, e, same-at e .offset, q)
+    step true false e q =
+        let full : ¬ (w (10 + number) ≡ emptySlot) = eqb-false (w (10 + number)) emptySlot q in
+        let x : SameAt w v (10 + number) = same-at e in
+        rw (count, x .offset, x .rows full, x .columns full)
+
 module _ (w v : ℕ → ℕ) (s : SameWords w v) where
   -- the checks of a whole file
   pub file-same : (len : ℕ) → fileRules len v ≡ fileRules len w
@@ -98,29 +116,14 @@ module _ (w v : ℕ → ℕ) (s : SameWords w v) where
   file-same len = rw (s .count, s .next, slots-same w v (w 10) (nextFree w) (w 10) (s .slots))
 
   -- what it reads of a grid by its number
-  number-same : (number : ℕ) → within 1 (w 10) number ≡ true → SameAt w v (10 + number)
-  number-same number e =
-      let range : (1 ≤ number) × (number ≤ w 10) = within-exactly 1 (w 10) number .sound e in
-      subst (SameAt w v) (number-slot number (range .0)) (s .slots (number - 1) (omega (arith, range .0, range .1)))
-
-  -- a number that the file has not is refused alike, and so is that of an empty slot
-  wanted-same : (o : Order) (len number : ℕ) → openWanted o len v number ≡ openWanted o len w number
-  unfolding openWanted wantedRules layoutOf firstFault judge first
-  wanted-same o len number = step (within 1 (w 10) number) (eqb (w (10 + number)) emptySlot) refl refl
-    where
-      step : (t u : Bool) → within 1 (w 10) number ≡ t → eqb (w (10 + number)) emptySlot ≡ u → openWanted o len v number ≡ openWanted o len w number
-      step false u e q = rw (s .count, e)
-      step true true e q = rw (s .count, e, number-same number e .offset, q)
-      step true false e q =
-          let full : ¬ (w (10 + number) ≡ emptySlot) = eqb-false (w (10 + number)) emptySlot q in
-          let x : SameAt w v (10 + number) = number-same number e in
-          rw (s .count, x .offset, x .rows full, x .columns full)
+  number-same : (number : ℕ) → 1 ≤ number → number ≤ w 10 → SameAt w v (10 + number)
+  number-same number from to = subst (SameAt w v) (number-slot number from) (s .slots (number - 1) (omega (arith, from, to)))
 
   -- opening, whatever the length and the grid
   pub open-same : (o : Order) (len number : ℕ) → openWords o len v number ≡ openWords o len w number
   open-same o len number =
       open-split o len v number (firstFault (fileRules len w)) (ap firstFault (file-same len))
-      ∙ ap (after (firstFault (fileRules len w))) (wanted-same o len number)
+      ∙ ap (after (firstFault (fileRules len w))) (wanted-same w v o len number (s .count) (number-same number))
       ∙ sym (open-split o len w number (firstFault (fileRules len w)) refl)
 
 -- two files of one length that agree on what opening reads of the first open alike
