@@ -1,72 +1,24 @@
 // AREA files, images: opening a file, and comparing layouts.
-use area_rules::word_verdict;
-use endian::Order;
+use area_directory::word_verdict;
+use area_rules::AreaLayout;
+use area_rules::AreaOpening;
 use endian::order_number;
-use endian::read_word;
-use refusal::NO_BYTE_ORDER;
-use refusal::Refusal;
-use refusal::SHORT_FILE;
-use refusal::Verdict;
+use endian_rules::Order;
+use endian_steps::read_word;
 use refusal::and;
 use refusal::equal_and;
+use refusal_rules::NO_BYTE_ORDER;
+use refusal_rules::Refusal;
+use refusal_rules::SHORT_FILE;
+use refusal_rules::Verdict;
 ghost use mathlib.Core.Path.{_≡_};
 ghost use Prim.Native.Nat.{_≤_};
-ghost use lib.Dec.{leb};
 ghost use lib.ListN.{length, drop};
+ghost use lib.Dec.{leb};
 ghost use Rattle.lists.specs.Choices.{pick};
-ghost use Rattle.refusal.specs.Tests.{sameNumbers};
+ghost use Rattle.refusal_rules.specs.Tests.{sameNumbers};
 ghost use Rattle.area_rules.specs.Rules.{directoryOf, wordIn};
-ghost use Rattle.area.specs.Opening.{areaSays, layoutOf, openWords, openTold, openArea, flagNumber, areaNumbers, sameArea};
-
-// What opening an AREA file finds: the byte order in which word 2 reads 4 and the file's length in bytes; and as raw words the lines (W9), the
-// elements of a line (W10), the bytes of a sample (W11), the bands (W14), the bytes of a line prefix (W15), the band map (W19, and W20, which is 0
-// unless there are more than 32 bands), the starts of DATA (W34) and NAV (W35), the bytes of documentation (W49), calibration (W50) and band list
-// (W51) in a line prefix, the starts of AUX (W60) and CAL (W63), the comment cards (W64), and whether W36 is 0, where lines have no validity code.
-// A start of 0 means that there is no such block. "Layout" is document 01's term.
-pub struct AreaLayout {
-    pub order: Order,
-    pub length: usize,
-    pub lines: u32,
-    pub elements: u32,
-    pub width: u32,
-    pub bands: u32,
-    pub prefix: u32,
-    pub map: u32,
-    pub map2: u32,
-    pub start: u32,
-    pub nav: u32,
-    pub documentation: u32,
-    pub calibration: u32,
-    pub list: u32,
-    pub aux: u32,
-    pub cal: u32,
-    pub cards: u32,
-    pub plain: bool,
-}
-
-// What opening an AREA file answers: its layout, or a refusal.
-pub enum AreaOpening {
-    Opened(AreaLayout),
-    Refused(Refusal),
-}
-
-// The blocks of an AREA file: the directory, navigation, calibration, the supplemental block, the image lines, and the comment cards.
-pub enum Block {
-    Dir,
-    Nav,
-    Cal,
-    Aux,
-    Data,
-    Audit,
-}
-
-// The regions of a line prefix, in their order.
-pub enum Region {
-    Validity,
-    Documentation,
-    Calibration,
-    BandList,
-}
+ghost use Rattle.area_rules.specs.Opening.{areaLayoutOf, areaSays, openAreaWords, openAreaTold, openArea, flagNumber, areaNumbers, sameArea};
 
 // The 64 words of a directory, read once in a byte order. Every rule is applied to them, and not to the file. W k, counted from 1, is
 // words[k - 1].
@@ -92,7 +44,7 @@ fn second_map(bands: u32, map2: u32) -> u32
 
 // The layout that the words of a file of `told` bytes give.
 fn layout(told: usize, order: Order, words: &[u32; 64]) -> AreaLayout
-    ensures { λ r. ⌜ r ≡ layoutOf told order (wordIn (now (words .entry))) ⌝ }
+    ensures { λ r. ⌜ r ≡ areaLayoutOf told order (wordIn (now (words .entry))) ⌝ }
 {
     let map2 = second_map(words[13], words[19]);
     AreaLayout {
@@ -119,7 +71,7 @@ fn layout(told: usize, order: Order, words: &[u32; 64]) -> AreaLayout
 
 // Opens by the words of a directory, where W2 reads 4 in this order.
 fn open_words(told: usize, order: Order, words: &[u32; 64]) -> AreaOpening
-    ensures { λ r. ⌜ areaSays r ≡ openWords told order (wordIn (now (words .entry))) ⌝ }
+    ensures { λ r. ⌜ areaSays r ≡ openAreaWords told order (wordIn (now (words .entry))) ⌝ }
 {
     match word_verdict(told, words) {
         Verdict::Fault(refusal) => AreaOpening::Refused(refusal),
@@ -130,7 +82,7 @@ fn open_words(told: usize, order: Order, words: &[u32; 64]) -> AreaOpening
 // Opens by the bytes of a directory, where W2 reads 4 in this order.
 fn open_ordered(told: usize, order: Order, bytes: &[u8]) -> AreaOpening
     requires { ⌜ 256 ≤ length (now bytes) ⌝ }
-    ensures { λ r. ⌜ areaSays r ≡ openWords told order (wordIn (directoryOf order (now (bytes .entry)))) ⌝ }
+    ensures { λ r. ⌜ areaSays r ≡ openAreaWords told order (wordIn (directoryOf order (now (bytes .entry)))) ⌝ }
 {
     let words = read_directory(order, bytes);
     open_words(told, order, &words)
@@ -141,7 +93,7 @@ fn open_ordered(told: usize, order: Order, bytes: &[u8]) -> AreaOpening
 // order, 3 at a count outside its bounds, 4 at a word unequal to its rule, 5 at the start of a part that would be outside the file or over another
 // part.
 pub fn open_told(told: usize, directory: &[u8]) -> AreaOpening
-    ensures { λ r. ⌜ areaSays r ≡ openTold told (now (directory .entry)) ⌝ }
+    ensures { λ r. ⌜ areaSays r ≡ openAreaTold told (now (directory .entry)) ⌝ }
 {
     if told < 256 {
         return AreaOpening::Refused(Refusal {

@@ -1,30 +1,30 @@
 // The lines of an AREA file: the slot of a band, and one slot of one line copied into a lent output.
-use area::AreaLayout;
-use area::AreaOpening;
 use area_places::sample_place;
-use bands::Channel;
+use area_rules::AreaLayout;
+use area_rules::AreaOpening;
+use area_rules::SlotOrBand;
 use bands::slot_of;
-use found::area_of;
-use layout::Layout;
-use number_copies::Run;
-use number_copies::copy_numbers;
-use refusal::NumberAnswer;
-use refusal::PlaceAnswer;
-use refusal::SizeAnswer;
+use copy_rules::Strided;
+use fresh_layout::area_of;
+use layout_rules::Layout;
+use number_copy_steps::copy_numbers;
+use refusal_rules::NumberAnswer;
+use refusal_rules::PlaceAnswer;
+use refusal_rules::SizeAnswer;
 ghost use mathlib.Core.Path.{_≡_};
-ghost use Rattle.refusal.specs.Answers.{numberSays, sizeSays};
-ghost use Rattle.area.specs.Samples.{AreaOf};
-ghost use Rattle.parts.specs.Runs.{copied};
-ghost use Rattle.area_lines.specs.Lines.{slotIn, channelLine, copyLine};
+ghost use Rattle.refusal_rules.specs.Answers.{numberSays, sizeSays};
+ghost use Rattle.area_rules.specs.Samples.{AreaOf};
+ghost use Rattle.copy_rules.specs.Runs.{copied};
+ghost use Rattle.area_part_rules.specs.Lines.{bandSlotIn, lineIn, copyLine};
 
 // The slot of a band, counted from 1, of an AREA file. Refused with 9 where the layout is stale, then with 7 where it is of another kind, then with 4 at 19 where
 // the band map has not as many set bits as there are bands, then with 7 where it has no such band.
 pub fn band_slot(file: &[u8], layout: Layout, band: u32) -> NumberAnswer
-    ensures { λ r. ⌜ numberSays r ≡ slotIn (now (file .entry)) layout band ⌝ }
+    ensures { λ r. ⌜ numberSays r ≡ bandSlotIn (now (file .entry)) layout band ⌝ }
 {
     match area_of(file, layout) {
         AreaOpening::Refused(refusal) => NumberAnswer::Refused(refusal),
-        AreaOpening::Opened(l) => slot_of(l, Channel::Band(band)),
+        AreaOpening::Opened(l) => slot_of(l, SlotOrBand::Band(band)),
     }
 }
 
@@ -33,17 +33,17 @@ fn copy_channel(
     file: &[u8],
     l: AreaLayout,
     line: u32,
-    channel: Channel,
+    channel: SlotOrBand,
     out: &mut [u32],
 ) -> SizeAnswer
     requires { ⌜ AreaOf (now file) l ⌝ }
-    ensures { λ r. ⌜ (sizeSays r, now (out .exit)) ≡ copied (channelLine (now (file .entry)) l line channel) (now (out .entry)) ⌝ }
+    ensures { λ r. ⌜ (sizeSays r, now (out .exit)) ≡ copied (lineIn (now (file .entry)) l line channel) (now (out .entry)) ⌝ }
 {
     let order = l.order;
     match sample_place(l, line, 0, channel) {
         PlaceAnswer::Refused(refusal) => SizeAnswer::Refused(refusal),
         PlaceAnswer::At(place) => {
-            let run = Run {
+            let run = Strided {
                 at: place.address,
                 step: l.bands as usize * l.width as usize,
                 count: l.elements as usize,
@@ -60,7 +60,7 @@ pub fn copy_line(
     file: &[u8],
     layout: Layout,
     line: u32,
-    channel: Channel,
+    channel: SlotOrBand,
     out: &mut [u32],
 ) -> SizeAnswer
     ensures { λ r. ⌜ (sizeSays r, now (out .exit)) ≡ copyLine (now (file .entry)) layout line channel (now (out .entry)) ⌝ }

@@ -1,23 +1,23 @@
 // Where the lines and samples of an AREA file lie, by a layout alone. A layout may be one that a caller has made up: where a field of it is above the bounds
 // that opening sets, there is no such value, and nothing is computed from it.
-use area::AreaLayout;
-use bands::Channel;
+use area_rules::AreaLayout;
+use area_rules::SlotOrBand;
 use bands::slot_of;
-use refusal::NO_SUCH;
-use refusal::NumberAnswer;
-use refusal::Place;
-use refusal::PlaceAnswer;
-use refusal::SizeAnswer;
-use refusal::Verdict;
 use refusal::and;
 use refusal::check;
+use refusal_rules::NO_SUCH;
+use refusal_rules::NumberAnswer;
+use refusal_rules::Place;
+use refusal_rules::PlaceAnswer;
+use refusal_rules::SizeAnswer;
+use refusal_rules::Verdict;
 ghost use mathlib.Core.Path.{_≡_};
 ghost use Prim.Native.Nat.{_≤_};
-ghost use Rattle.refusal.specs.Answers.{sizeSays, placeSays};
-ghost use Rattle.refusal.specs.Rules.{firstFault};
-ghost use Rattle.area.specs.Samples.{lineIn, lineStart, sampleAddress};
-ghost use Rattle.area_places.specs.Bounds.{areaBounded, AreaBounds};
-ghost use Rattle.area_places.specs.Places.{lineStartOf, sampleRules, samplePlace};
+ghost use Rattle.refusal_rules.specs.Answers.{sizeSays, placeSays};
+ghost use Rattle.refusal_rules.specs.Rules.{firstFault};
+ghost use Rattle.area_rules.specs.Bounds.{areaBounded, AreaBounds};
+ghost use Rattle.area_rules.specs.Samples.{lineLengthIn, lineStart, sampleAddress};
+ghost use Rattle.area_rules.specs.Places.{lineStartOf, sampleRules, samplePlace};
 
 // Whether the fields that AREA addresses are computed from are within the bounds that opening sets.
 fn area_bounded(l: AreaLayout) -> bool
@@ -28,9 +28,9 @@ fn area_bounded(l: AreaLayout) -> bool
 }
 
 // The bytes of a line.
-fn line_length(l: AreaLayout) -> usize
+fn line_length_in(l: AreaLayout) -> usize
     requires { ⌜ AreaBounds l ⌝ }
-    ensures { λ r. ⌜ r ≡ lineIn l ⌝ }
+    ensures { λ r. ⌜ r ≡ lineLengthIn l ⌝ }
 {
     l.prefix as usize + l.bands as usize * l.elements as usize * l.width as usize
 }
@@ -40,7 +40,7 @@ fn line_at(l: AreaLayout, line: u32) -> usize
     requires { ⌜ AreaBounds l × (line ≤ l .lines) ⌝ }
     ensures { λ r. ⌜ r ≡ lineStart l line ⌝ }
 {
-    l.start as usize + line as usize * line_length(l)
+    l.start as usize + line as usize * line_length_in(l)
 }
 
 // The byte at which a line of an AREA file begins, with its prefix, the line counted from 0. Line W9 would begin where DATA ends, and so gives that byte.
@@ -75,7 +75,7 @@ fn sample_verdict(l: AreaLayout, line: u32, element: u32) -> Verdict
 
 // The place of a sample of an AREA file, named by line and element, both counted from 0, and channel. Refused with 4 at 19 where a band is named and the band
 // map is unusable, then with 7 where there is no such line, element, slot or band, or the layout is above the bounds that opening sets.
-pub fn sample_place(l: AreaLayout, line: u32, element: u32, channel: Channel) -> PlaceAnswer
+pub fn sample_place(l: AreaLayout, line: u32, element: u32, channel: SlotOrBand) -> PlaceAnswer
     ensures { λ r. ⌜ placeSays r ≡ samplePlace l line element channel ⌝ }
 {
     match slot_of(l, channel) {

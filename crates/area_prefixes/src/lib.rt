@@ -1,23 +1,23 @@
 // The prefix of a line of an AREA file: its regions.
-use area::AreaLayout;
-use area::AreaOpening;
-use area::Region;
 use area_places::line_start;
-use found::area_of;
-use layout::Layout;
-use parts::Span;
-use parts::SpanAnswer;
-use parts::hand_back;
-use refusal::ABSENT;
-use refusal::NO_SUCH;
-use refusal::SizeAnswer;
-use refusal::Verdict;
+use area_rules::AreaLayout;
+use area_rules::AreaOpening;
+use area_rules::Region;
+use fresh_layout::area_of;
+use layout_rules::Layout;
 use refusal::check;
+use refusal_rules::ABSENT;
+use refusal_rules::NO_SUCH;
+use refusal_rules::SizeAnswer;
+use refusal_rules::Verdict;
+use span_rules::Span;
+use span_rules::SpanAnswer;
+use span_steps::hand_back;
 ghost use mathlib.Core.Path.{_≡_};
-ghost use Rattle.area.specs.Samples.{AreaFits};
-ghost use Rattle.area.specs.Blocks.{regionLength, regionOffset};
-ghost use Rattle.parts.specs.Spans.{spanSays, handed};
-ghost use Rattle.area_prefixes.specs.Regions.{regionOf, regionSpan};
+ghost use Rattle.area_rules.specs.Blocks.{regionLength, regionOffset};
+ghost use Rattle.area_rules.specs.Samples.{AreaFits};
+ghost use Rattle.span_rules.specs.Spans.{spanSays, handed};
+ghost use Rattle.area_part_rules.specs.Regions.{regionOf, regionSpan};
 
 // The bytes of a region of a line prefix.
 fn region_length(l: AreaLayout, region: Region) -> usize

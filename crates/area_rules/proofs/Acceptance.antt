@@ -1,142 +1,43 @@
--- The rules of an AREA file hold exactly where the file is accepted, one line a rule and direction.
+-- An AREA file is accepted exactly where every rule holds, and the layout is then the one that its words give.
 -- Assumes nothing.
 use mathlib.Core.Path.{_≡_}
-use mathlib.Core.Bool.{Bool, true, not}
-use mathlib.Core.Logic.{_⊎_, _↔_}
+use mathlib.Core.Logic.{_↔_}
 use mathlib.Core.List.{List}
-use Prim.Native.Nat.{ℕ, _%_, _≤_}
-use lib.Dec.{leb, eqb}
+use Prim.Native.Nat.{ℕ}
 use lib.ListN.{length}
-use Rattle.endian.specs.Words.{wordAt, atLeast, AtLeast}
-use Rattle.endian.specs.declared.Order.the-variants.{Big, Little}
-use Rattle.endian.proofs.Signs.{at-least}
-use Rattle.lists.specs.Choices.{both, either}
-use Rattle.refusal.specs.Rules.{Hold}
-use Rattle.refusal.specs.Tests.{Exactly}
-use Rattle.refusal.proofs.Tables.{hold-append, also}
-use Rattle.refusal.proofs.Exactness.{le-exactly, lt-exactly, eq-exactly, not-exactly, iff-exactly, true-exactly, both-exactly, either-exactly}
-use Rattle.area_rules.specs.Rules.{directoryOf, wordIn, readsFour, orderOf, fourfold, prefixOf, lineOf, auditEndOf, startFits, countRules, shapeRules, placeRules, describedRules, wordRules, areaRules}
-use Rattle.area_rules.specs.Accepts.{StartFits, AcceptsWords, Accepts}
-use Rattle.area_rules.proofs.Counts.{Counted, counts-exactly}
+use Rattle.refusal_rules.specs.Rules.{FirstFailing}
+use Rattle.refusal_rules.specs.Answers.{gives, refuses}
+use Rattle.refusal_rules.specs.declared.Refusal.{Refusal}
+use Rattle.refusal_rules.proofs.Answers.{value-exactly, refusal-exactly}
+use Rattle.area_rules.specs.Rules.{directoryOf, wordIn, areaOrder, areaRules}
+use Rattle.area_rules.specs.Opening.{areaLayoutOf, openAreaTold, openArea}
+use Rattle.area_rules.specs.Accepts.{AcceptsArea}
+use Rattle.area_rules.specs.declared.AreaLayout.{AreaLayout}
+use Rattle.area_rules.proofs.Words.{rules-exactly}
 
--- ---- what each test says
+-- the layout that the bytes d give, which a file of `told` bytes begins with
+abbrev pub layoutTold : ℕ → List ℕ → AreaLayout
+layoutTold told d = areaLayoutOf told (areaOrder d) (wordIn (directoryOf (areaOrder d) d))
 
-fourfold-exactly : (n : ℕ) → Exactly (fourfold n) (n % 4 ≡ 0)
-fourfold-exactly n = eq-exactly (n % 4) 0
+-- a file of which the first bytes are at hand opens exactly where all rules hold, and then to that layout and no other
+pub told-exactly : (told : ℕ) (d : List ℕ) (l : AreaLayout) → (openAreaTold told d ≡ gives l) ↔ (AcceptsArea told d × (l ≡ layoutTold told d))
+unfolding openAreaTold
+told-exactly told d l =
+    let x = value-exactly (areaRules told d) (layoutTold told d) l in
+    let y = rules-exactly told d in
+    (λ e. (y .0 (x .0 e .0), x .0 e .1), λ a. x .1 (y .1 (a .0), a .1))
 
-unequal-exactly : (a b : ℕ) → Exactly (not (eqb a b)) (¬ (a ≡ b))
-unequal-exactly a b = not-exactly (eq-exactly a b)
+-- and is refused exactly where a rule fails, by the first that does
+pub told-refused : (told : ℕ) (d : List ℕ) (r : Refusal) → (openAreaTold told d ≡ refuses (r .number) (r .place)) ↔ FirstFailing (areaRules told d) r
+unfolding openAreaTold
+told-refused told d r = refusal-exactly (areaRules told d) (layoutTold told d) r
 
-at-least-exactly : (low n : ℕ) → Exactly (atLeast low n) (AtLeast low n)
-at-least-exactly low n = iff-exactly (at-least low n)
+-- a whole file: accepted exactly where all rules hold
+pub area-exactly : (f : List ℕ) (l : AreaLayout) → (openArea f ≡ gives l) ↔ (AcceptsArea (length f) f × (l ≡ layoutTold (length f) f))
+unfolding openArea
+area-exactly f l = told-exactly (length f) f l
 
-start-exactly : (told : ℕ) (W : ℕ → ℕ) (x : ℕ) {unequal : Bool} {Unequal : Type 0} → Exactly unequal Unequal
-    → Exactly (startFits told W x unequal) (StartFits told (W 34) (auditEndOf W) x Unequal)
-start-exactly told W x u =
-    either-exactly (eq-exactly x 0)
-    (both-exactly (at-least-exactly 256 x)
-    (both-exactly (lt-exactly x told) (both-exactly (either-exactly (lt-exactly x (W 34)) (le-exactly (auditEndOf W) x)) u)))
-
--- ---- the table
-
-module _ (told : ℕ) (W : ℕ → ℕ) where
-  data-exactly : Exactly (both (atLeast 256 (W 34)) (leb (auditEndOf W) told)) (AtLeast 256 (W 34) × (auditEndOf W ≤ told))
-  data-exactly = both-exactly (at-least-exactly 256 (W 34)) (le-exactly (auditEndOf W) told)
-
-  entries-exactly : Exactly (either (not (eqb (W 60) 0)) (eqb (W 61) 0)) ((¬ (W 60 ≡ 0)) ⊎ (W 61 ≡ 0))
-  entries-exactly = either-exactly (unequal-exactly (W 60) 0) (eq-exactly (W 61) 0)
-
-  nav-exactly : Exactly (startFits told W (W 35) true) (StartFits told (W 34) (auditEndOf W) (W 35) (Unit {0}))
-  nav-exactly = start-exactly told W (W 35) (true-exactly tt)
-
-  cal-exactly : Exactly (startFits told W (W 63) (not (eqb (W 63) (W 35)))) (StartFits told (W 34) (auditEndOf W) (W 63) (¬ (W 63 ≡ W 35)))
-  cal-exactly = start-exactly told W (W 63) (unequal-exactly (W 63) (W 35))
-
-  aux-exactly : Exactly (startFits told W (W 60) (both (not (eqb (W 60) (W 35))) (not (eqb (W 60) (W 63)))))
-      (StartFits told (W 34) (auditEndOf W) (W 60) ((¬ (W 60 ≡ W 35)) × (¬ (W 60 ≡ W 63))))
-  aux-exactly = start-exactly told W (W 60) (both-exactly (unequal-exactly (W 60) (W 35)) (unequal-exactly (W 60) (W 63)))
-
-  hold-shapes-places : Counted W → Hold (shapeRules W) → Hold (placeRules told W) → AcceptsWords told W
-  unfolding shapeRules placeRules
-  hold-shapes-places k shape place =
-      record {
-        w9 = k .w9;
-        w10 = k .w10;
-        w11 = k .w11;
-        w14 = k .w14;
-        w49 = k .w49;
-        w50 = k .w50;
-        w51 = k .w51;
-        w61 = k .w61;
-        w64 = k .w64;
-        fourfold49 = fourfold-exactly (W 49) .sound (shape .0);
-        fourfold50 = fourfold-exactly (W 50) .sound (shape .1 .0);
-        fourfold51 = fourfold-exactly (W 51) .sound (shape .1 .1 .0);
-        w15 = eq-exactly (W 15) (prefixOf W) .sound (shape .1 .1 .1 .0);
-        line = fourfold-exactly (lineOf W) .sound (shape .1 .1 .1 .1 .0);
-        entries = entries-exactly .sound (shape .1 .1 .1 .1 .1 .0);
-        w34 = data-exactly .sound (place .0);
-        w35 = nav-exactly .sound (place .1 .0);
-        w63 = cal-exactly .sound (place .1 .1 .0);
-        w60 = aux-exactly .sound (place .1 .1 .1 .0);
-      }
-
-  accepts-counts : AcceptsWords told W → Hold (countRules W)
-  accepts-counts a =
-      counts-exactly W .1
-      (record { w9 = a .w9; w10 = a .w10; w11 = a .w11; w14 = a .w14; w49 = a .w49; w50 = a .w50; w51 = a .w51; w61 = a .w61; w64 = a .w64 })
-
-  accepts-shapes : AcceptsWords told W → Hold (shapeRules W)
-  unfolding shapeRules
-  accepts-shapes a =
-      also (fourfold-exactly (W 49) .complete (a .fourfold49))
-      (also (fourfold-exactly (W 50) .complete (a .fourfold50))
-      (also (fourfold-exactly (W 51) .complete (a .fourfold51))
-      (also (eq-exactly (W 15) (prefixOf W) .complete (a .w15))
-      (also (fourfold-exactly (lineOf W) .complete (a .line))
-      (also (entries-exactly .complete (a .entries))
-      tt)))))
-
-  accepts-places : AcceptsWords told W → Hold (placeRules told W)
-  unfolding placeRules
-  accepts-places a =
-      also (data-exactly .complete (a .w34))
-      (also (nav-exactly .complete (a .w35))
-      (also (cal-exactly .complete (a .w63))
-      (also (aux-exactly .complete (a .w60))
-      tt)))
-
-  -- the rules of the words hold exactly where the words are accepted
-  pub words-exactly : Hold (wordRules told W) ↔ AcceptsWords told W
-  unfolding wordRules describedRules
-  words-exactly =
-      let all = hold-append (describedRules W) (placeRules told W) in
-      let described = hold-append (countRules W) (shapeRules W) in (
-        λ h.
-            let d = described .0 (all .0 h .0) in
-            hold-shapes-places (counts-exactly W .0 (d .0)) (d .1) (all .0 h .1),
-        λ a. all .1 (described .1 (accepts-counts a, accepts-shapes a), accepts-places a),
-      )
-
--- ---- the whole table
-
-two-exactly : (d : List ℕ) → Exactly (either (readsFour Big d) (readsFour Little d)) ((wordAt Big d 1 ≡ 4) ⊎ (wordAt Little d 1 ≡ 4))
-two-exactly d = either-exactly (eq-exactly (wordAt Big d 1) 4) (eq-exactly (wordAt Little d 1) 4)
-
--- all rules hold exactly where they are accepted
-pub rules-exactly : (told : ℕ) (d : List ℕ) → Hold (areaRules told d) ↔ Accepts told d
-unfolding areaRules
-rules-exactly told d =
-    let x = words-exactly told (wordIn (directoryOf (orderOf d) d)) in (
-      λ h.
-          record {
-            long = le-exactly 256 told .sound (h .0);
-            directory = le-exactly 256 (length d) .sound (h .1 .0);
-            w2 = two-exactly d .sound (h .1 .1 .0);
-            words = x .0 (h .1 .1 .1);
-          },
-      λ a. (
-        le-exactly 256 told .complete (a .long),
-        (le-exactly 256 (length d) .complete (a .directory), (two-exactly d .complete (a .w2), x .1 (a .words))),
-      ),
-    )
+-- and refused exactly where one fails
+pub area-refused : (f : List ℕ) (r : Refusal) → (openArea f ≡ refuses (r .number) (r .place)) ↔ FirstFailing (areaRules (length f) f) r
+unfolding openArea
+area-refused f r = told-refused (length f) f r

@@ -9,13 +9,13 @@ use native.Mathlib.Nat.{mul-le-mul}
 use native.Mathlib.Omega.{arith}
 use lib.Dec.{eqb}
 use borrow.Author.Tests.{eqb-true}
-use Rattle.refusal.specs.Rules.{firstFault, tabled, Hold}
-use Rattle.refusal.specs.Tests.{Exactly}
-use Rattle.refusal.specs.declared.Verdict.the-variants.{Pass}
-use Rattle.refusal.proofs.Exactness.{eq-exactly, either-exactly, within-exactly}
-use Rattle.refusal.proofs.Tables.{pass-hold, also}
+use Rattle.refusal_rules.specs.Rules.{firstFault, tabled, Hold}
+use Rattle.refusal_rules.specs.Tests.{Exactly}
+use Rattle.refusal_rules.specs.declared.Verdict.the-variants.{Pass}
+use Rattle.refusal_rules.proofs.Exactness.{eq-exactly, either-exactly, within-exactly}
+use Rattle.refusal_rules.proofs.Tables.{pass-hold, also}
 use Rattle.area_rules.specs.Lines.{validityLength}
-use Rattle.area_rules.specs.Rules.{isWidth, countRules, prefixOf, lineOf, shapeRules, placeRules, describedRules, wordRules, areaRules}
+use Rattle.area_rules.specs.Rules.{isWidth, areaCountRules, prefixLengthOf, lineLengthOf, areaShapeRules, areaPlaceRules, areaDescribedRules, areaWordRules, areaRules}
 use Rattle.area_rules.specs.Accepts.{IsWidth}
 
 -- ---- the order of the checks
@@ -27,7 +27,7 @@ pub area-order : (told : ℕ) (d : List ℕ) → tabled (areaRules told d)
     ∷ (3, 9) ∷ (3, 10) ∷ (3, 11) ∷ (3, 14) ∷ (3, 49) ∷ (3, 50) ∷ (3, 51) ∷ (3, 61) ∷ (3, 64)
     ∷ (4, 49) ∷ (4, 50) ∷ (4, 51) ∷ (4, 15) ∷ (4, 10) ∷ (4, 61)
     ∷ (5, 34) ∷ (5, 35) ∷ (5, 63) ∷ (5, 60) ∷ []
-unfolding tabled areaRules wordRules describedRules countRules shapeRules placeRules
+unfolding tabled areaRules areaWordRules areaDescribedRules areaCountRules areaShapeRules areaPlaceRules
 area-order told d = refl
 
 -- ---- the counts
@@ -57,8 +57,8 @@ pub record Counted (W : ℕ → ℕ) : Type 0 where
   pub w64 : (0 ≤ W 64) × (W 64 ≤ 65535)
 
 -- their rules hold exactly where they are so
-pub counts-exactly : (W : ℕ → ℕ) → Hold (countRules W) ↔ Counted W
-unfolding countRules
+pub counts-exactly : (W : ℕ → ℕ) → Hold (areaCountRules W) ↔ Counted W
+unfolding areaCountRules
 counts-exactly W = (
   λ h.
       record {
@@ -86,17 +86,17 @@ counts-exactly W = (
 )
 
 -- where they pass
-pub counted : (W : ℕ → ℕ) → firstFault (countRules W) ≡ Pass → Counted W
-counted W e = counts-exactly W .0 (pass-hold (countRules W) e)
+pub counted : (W : ℕ → ℕ) → firstFault (areaCountRules W) ≡ Pass → Counted W
+counted W e = counts-exactly W .0 (pass-hold (areaCountRules W) e)
 
 -- ---- the words that have a rule
 
 -- where the counts pass and W15 is the prefix length, a line has at most 196,609 bytes of prefix and 16,776,960 of samples
-pub line-most : (W : ℕ → ℕ) → firstFault (countRules W) ≡ Pass → firstFault (shapeRules W) ≡ Pass → lineOf W ≤ 16973569
-unfolding shapeRules
+pub line-most : (W : ℕ → ℕ) → firstFault (areaCountRules W) ≡ Pass → firstFault (areaShapeRules W) ≡ Pass → lineLengthOf W ≤ 16973569
+unfolding areaShapeRules
 line-most W e f =
     let k : Counted W = counted W e in
-    let prefix : W 15 ≡ prefixOf W = eqb-true (W 15) (prefixOf W) (pass-hold (shapeRules W) f .1 .1 .1 .0) in
+    let prefix : W 15 ≡ prefixLengthOf W = eqb-true (W 15) (prefixLengthOf W) (pass-hold (areaShapeRules W) f .1 .1 .1 .0) in
     let samples : W 14 * W 10 * W 11 ≤ 64 * 65535 * 4 = mul-le-mul (mul-le-mul (k .w14 .1) (k .w10 .1)) (width-bounds (W 11) (k .w11) .1) in
     omega (arith, prefix, samples, code (eqb (W 36) 0), k .w49 .1, k .w50 .1, k .w51 .1)
   where

@@ -1,2 +1,16 @@
 pub mod Counts
+pub mod Words
+pub mod Directory
+pub mod Layouts
 pub mod Acceptance
+pub mod Facts
+pub mod Footprint
+pub mod Samples
+pub mod Blocks
+pub mod Regions
+pub mod Worked
+pub mod Bands
+pub mod Bounds
+pub mod Tables
+pub mod Sizes
+pub mod Places

@@ -5,9 +5,9 @@ use mathlib.Core.Logic.{_⊎_}
 use mathlib.Core.List.{List}
 use Prim.Native.Nat.{ℕ, _%_, _≤_, _<_}
 use lib.ListN.{length}
-use Rattle.endian.specs.Words.{wordAt, AtLeast}
-use Rattle.endian.specs.declared.Order.the-variants.{Big, Little}
-use Rattle.area_rules.specs.Rules.{directoryOf, wordIn, orderOf, prefixOf, lineOf, auditEndOf}
+use Rattle.endian_rules.specs.Words.{wordAt, AtLeast}
+use Rattle.endian_rules.specs.declared.Order.the-variants.{Big, Little}
+use Rattle.area_rules.specs.Rules.{directoryOf, wordIn, areaOrder, prefixLengthOf, lineLengthOf, auditEndOf}
 
 -- "W11 is 1, 2 or 4"
 abbrev pub IsWidth : ℕ → Type 0
@@ -15,12 +15,12 @@ IsWidth n = (n ≡ 1) ⊎ ((n ≡ 2) ⊎ (n ≡ 4))
 
 -- a block may start at x, in a file of `told` bytes with DATA and AUDIT from `start` to `end`: none, or a place as the rule asks; `Unequal` is
 -- that it is unequal to an earlier one
-abbrev pub StartFits : ℕ → ℕ → ℕ → ℕ → Type 0 → Type 0
-StartFits told start end x Unequal = (x ≡ 0) ⊎ (AtLeast 256 x × ((x < told) × (((x < start) ⊎ (end ≤ x)) × Unequal)))
+abbrev pub BlockStartFits : ℕ → ℕ → ℕ → ℕ → Type 0 → Type 0
+BlockStartFits told start end x Unequal = (x ≡ 0) ⊎ (AtLeast 256 x × ((x < told) × (((x < start) ⊎ (end ≤ x)) × Unequal)))
 
 -- The rules of the words, one field a rule, of a file of `told` bytes. A word with an upper limit below 2 ^ 31, or with a rule, is the signed
 -- word; W34, W35, W63 and W60 have no upper limit of their own, and are compared as signed words.
-pub record AcceptsWords (told : ℕ) (W : ℕ → ℕ) : Type 0 where
+pub record AcceptsAreaWords (told : ℕ) (W : ℕ → ℕ) : Type 0 where
   pub w9 : (1 ≤ W 9) × (W 9 ≤ 65535)
   pub w10 : (1 ≤ W 10) × (W 10 ≤ 65535)
   pub w11 : IsWidth (W 11)
@@ -33,17 +33,17 @@ pub record AcceptsWords (told : ℕ) (W : ℕ → ℕ) : Type 0 where
   pub fourfold49 : W 49 % 4 ≡ 0
   pub fourfold50 : W 50 % 4 ≡ 0
   pub fourfold51 : W 51 % 4 ≡ 0
-  pub w15 : W 15 ≡ prefixOf W
-  pub line : lineOf W % 4 ≡ 0
+  pub w15 : W 15 ≡ prefixLengthOf W
+  pub line : lineLengthOf W % 4 ≡ 0
   pub entries : (¬ (W 60 ≡ 0)) ⊎ (W 61 ≡ 0)
   pub w34 : AtLeast 256 (W 34) × (auditEndOf W ≤ told)
-  pub w35 : StartFits told (W 34) (auditEndOf W) (W 35) (Unit {0})
-  pub w63 : StartFits told (W 34) (auditEndOf W) (W 63) (¬ (W 63 ≡ W 35))
-  pub w60 : StartFits told (W 34) (auditEndOf W) (W 60) ((¬ (W 60 ≡ W 35)) × (¬ (W 60 ≡ W 63)))
+  pub w35 : BlockStartFits told (W 34) (auditEndOf W) (W 35) (Unit {0})
+  pub w63 : BlockStartFits told (W 34) (auditEndOf W) (W 63) (¬ (W 63 ≡ W 35))
+  pub w60 : BlockStartFits told (W 34) (auditEndOf W) (W 60) ((¬ (W 60 ≡ W 35)) × (¬ (W 60 ≡ W 63)))
 
 -- all rules, of the bytes d that a file of `told` bytes begins with
-pub record Accepts (told : ℕ) (d : List ℕ) : Type 0 where
+pub record AcceptsArea (told : ℕ) (d : List ℕ) : Type 0 where
   pub long : 256 ≤ told
   pub directory : 256 ≤ length d
   pub w2 : (wordAt Big d 1 ≡ 4) ⊎ (wordAt Little d 1 ≡ 4)
-  pub words : AcceptsWords told (wordIn (directoryOf (orderOf d) d))
+  pub words : AcceptsAreaWords told (wordIn (directoryOf (areaOrder d) d))

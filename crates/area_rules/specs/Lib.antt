@@ -1,3 +1,10 @@
 pub mod Lines
 pub mod Rules
 pub mod Accepts
+pub mod Opening
+pub mod Samples
+pub mod Blocks
+pub mod Worked
+pub mod Bands
+pub mod Bounds
+pub mod Places

@@ -17,9 +17,9 @@ abbrev pub lineLength : ℕ → ℕ → ℕ → ℕ → ℕ
 lineLength prefix bands elements width = prefix + bands * elements * width
 
 -- the byte after DATA: "DATA starts at byte W34 and has W9 lines"
-abbrev pub dataEnd : ℕ → ℕ → ℕ → ℕ
-dataEnd start lines line = start + lines * line
+abbrev pub areaDataEnd : ℕ → ℕ → ℕ → ℕ
+areaDataEnd start lines line = start + lines * line
 
 -- the byte after AUDIT: "80·W64 bytes straight after DATA"
 abbrev pub auditEnd : ℕ → ℕ → ℕ → ℕ → ℕ
-auditEnd start lines line cards = dataEnd start lines line + 80 * cards
+auditEnd start lines line cards = areaDataEnd start lines line + 80 * cards

@@ -7,13 +7,13 @@ use mathlib.Core.List.{List, [], _∷_, _++_}
 use Prim.Native.Nat.{ℕ, _-_, _%_}
 use lib.Dec.{leb, ltb, eqb}
 use lib.ListN.{length, getD}
-use Rattle.endian.specs.Words.{wordAt, atLeast}
-use Rattle.endian.specs.declared.Order.{Order}
-use Rattle.endian.specs.declared.Order.the-variants.{Big, Little}
+use Rattle.endian_rules.specs.Words.{wordAt, atLeast}
+use Rattle.endian_rules.specs.declared.Order.{Order}
+use Rattle.endian_rules.specs.declared.Order.the-variants.{Big, Little}
 use Rattle.lists.specs.Choices.{pick, both, either}
 use Rattle.lists.specs.Lists.{listOf}
-use Rattle.refusal.specs.Rules.{Rule, rule}
-use Rattle.refusal.specs.Tests.{within}
+use Rattle.refusal_rules.specs.Rules.{Rule, rule}
+use Rattle.refusal_rules.specs.Tests.{within}
 use Rattle.area_rules.specs.Lines.{prefixLength, lineLength, auditEnd}
 
 -- ---- the directory
@@ -31,55 +31,55 @@ abbrev pub readsFour : Order → List ℕ → Bool
 readsFour o f = eqb (wordAt o f 1) 4
 
 -- that order
-abbrev pub orderOf : List ℕ → Order
-orderOf f = pick (readsFour Big f) Big Little
+abbrev pub areaOrder : List ℕ → Order
+areaOrder f = pick (readsFour Big f) Big Little
 
 -- ---- the counts: refusal 3
 
 -- a count is within its bounds
-abbrev pub count : (ℕ → ℕ) → ℕ → ℕ → ℕ → Rule
-count W k low high = rule (within low high (W k)) 3 k
+abbrev pub areaCount : (ℕ → ℕ) → ℕ → ℕ → ℕ → Rule
+areaCount W k low high = rule (within low high (W k)) 3 k
 
 -- "W11 is 1, 2 or 4"
 abbrev pub isWidth : ℕ → Bool
 isWidth n = either (eqb n 1) (either (eqb n 2) (eqb n 4))
 
 -- the counts, in document 01's order
-unfoldable pub countRules : (ℕ → ℕ) → List Rule
-countRules W =
-    count W 9 1 65535
-    ∷ count W 10 1 65535
+unfoldable pub areaCountRules : (ℕ → ℕ) → List Rule
+areaCountRules W =
+    areaCount W 9 1 65535
+    ∷ areaCount W 10 1 65535
     ∷ rule (isWidth (W 11)) 3 11
-    ∷ count W 14 1 64
-    ∷ count W 49 0 65535
-    ∷ count W 50 0 65535
-    ∷ count W 51 0 65535
-    ∷ count W 61 0 65535
-    ∷ count W 64 0 65535
+    ∷ areaCount W 14 1 64
+    ∷ areaCount W 49 0 65535
+    ∷ areaCount W 50 0 65535
+    ∷ areaCount W 51 0 65535
+    ∷ areaCount W 61 0 65535
+    ∷ areaCount W 64 0 65535
     ∷ []
 
 -- ---- the words that have a rule: refusal 4
 
 -- a multiple of four
-abbrev pub fourfold : ℕ → Bool
-fourfold n = eqb (n % 4) 0
+abbrev pub multipleOfFour : ℕ → Bool
+multipleOfFour n = eqb (n % 4) 0
 
 -- the prefix length that the words give, which W15 must be
-abbrev pub prefixOf : (ℕ → ℕ) → ℕ
-prefixOf W = prefixLength (eqb (W 36) 0) (W 49) (W 50) (W 51)
+abbrev pub prefixLengthOf : (ℕ → ℕ) → ℕ
+prefixLengthOf W = prefixLength (eqb (W 36) 0) (W 49) (W 50) (W 51)
 
 -- the line length that the words give
-abbrev pub lineOf : (ℕ → ℕ) → ℕ
-lineOf W = lineLength (W 15) (W 14) (W 10) (W 11)
+abbrev pub lineLengthOf : (ℕ → ℕ) → ℕ
+lineLengthOf W = lineLength (W 15) (W 14) (W 10) (W 11)
 
 -- W49, W50 and W51 as multiples of four; W15; the line length, at place 10; W61 zero if W60 is zero
-unfoldable pub shapeRules : (ℕ → ℕ) → List Rule
-shapeRules W =
-    rule (fourfold (W 49)) 4 49
-    ∷ rule (fourfold (W 50)) 4 50
-    ∷ rule (fourfold (W 51)) 4 51
-    ∷ rule (eqb (W 15) (prefixOf W)) 4 15
-    ∷ rule (fourfold (lineOf W)) 4 10
+unfoldable pub areaShapeRules : (ℕ → ℕ) → List Rule
+areaShapeRules W =
+    rule (multipleOfFour (W 49)) 4 49
+    ∷ rule (multipleOfFour (W 50)) 4 50
+    ∷ rule (multipleOfFour (W 51)) 4 51
+    ∷ rule (eqb (W 15) (prefixLengthOf W)) 4 15
+    ∷ rule (multipleOfFour (lineLengthOf W)) 4 10
     ∷ rule (either (not (eqb (W 60) 0)) (eqb (W 61) 0)) 4 61
     ∷ []
 
@@ -87,35 +87,35 @@ shapeRules W =
 
 -- the byte after AUDIT
 abbrev pub auditEndOf : (ℕ → ℕ) → ℕ
-auditEndOf W = auditEnd (W 34) (W 9) (lineOf W) (W 64)
+auditEndOf W = auditEnd (W 34) (W 9) (lineLengthOf W) (W 64)
 
 -- a byte is not inside DATA or AUDIT
-abbrev pub outsideData : (ℕ → ℕ) → ℕ → Bool
-outsideData W x = either (ltb x (W 34)) (leb (auditEndOf W) x)
+abbrev pub outsideDataAndAudit : (ℕ → ℕ) → ℕ → Bool
+outsideDataAndAudit W x = either (ltb x (W 34)) (leb (auditEndOf W) x)
 
 -- a block may start at x: "each 0, or at least 256, before the end of the file, not inside DATA or AUDIT, and unequal to an earlier one";
 -- `unequal` is whether it is
-abbrev pub startFits : ℕ → (ℕ → ℕ) → ℕ → Bool → Bool
-startFits told W x unequal = either (eqb x 0) (both (atLeast 256 x) (both (ltb x told) (both (outsideData W x) unequal)))
+abbrev pub blockStartFits : ℕ → (ℕ → ℕ) → ℕ → Bool → Bool
+blockStartFits told W x unequal = either (eqb x 0) (both (atLeast 256 x) (both (ltb x told) (both (outsideDataAndAudit W x) unequal)))
 
 -- W34 at least 256 with DATA and AUDIT inside the file; then W35, W63, W60
-unfoldable pub placeRules : ℕ → (ℕ → ℕ) → List Rule
-placeRules told W =
+unfoldable pub areaPlaceRules : ℕ → (ℕ → ℕ) → List Rule
+areaPlaceRules told W =
     rule (both (atLeast 256 (W 34)) (leb (auditEndOf W) told)) 5 34
-    ∷ rule (startFits told W (W 35) true) 5 35
-    ∷ rule (startFits told W (W 63) (not (eqb (W 63) (W 35)))) 5 63
-    ∷ rule (startFits told W (W 60) (both (not (eqb (W 60) (W 35))) (not (eqb (W 60) (W 63))))) 5 60
+    ∷ rule (blockStartFits told W (W 35) true) 5 35
+    ∷ rule (blockStartFits told W (W 63) (not (eqb (W 63) (W 35)))) 5 63
+    ∷ rule (blockStartFits told W (W 60) (both (not (eqb (W 60) (W 35))) (not (eqb (W 60) (W 63))))) 5 60
     ∷ []
 
 -- ---- the table
 
 -- the checks that a directory's words alone settle
-unfoldable pub describedRules : (ℕ → ℕ) → List Rule
-describedRules W = countRules W ++ shapeRules W
+unfoldable pub areaDescribedRules : (ℕ → ℕ) → List Rule
+areaDescribedRules W = areaCountRules W ++ areaShapeRules W
 
 -- all checks of the words but W2
-unfoldable pub wordRules : ℕ → (ℕ → ℕ) → List Rule
-wordRules told W = describedRules W ++ placeRules told W
+unfoldable pub areaWordRules : ℕ → (ℕ → ℕ) → List Rule
+areaWordRules told W = areaDescribedRules W ++ areaPlaceRules told W
 
 -- All checks, of the bytes d that a file of `told` bytes begins with. The directory is bytes 0 to 255: fewer of them are no directory, as in a file
 -- that is shorter.
@@ -124,4 +124,4 @@ areaRules told d =
     rule (leb 256 told) 1 0
     ∷ rule (leb 256 (length d)) 1 0
     ∷ rule (either (readsFour Big d) (readsFour Little d)) 2 2
-    ∷ wordRules told (wordIn (directoryOf (orderOf d) d))
+    ∷ areaWordRules told (wordIn (directoryOf (areaOrder d) d))

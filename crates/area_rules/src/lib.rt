@@ -1,158 +1,60 @@
-// The rules of the words of an AREA directory, as functions over its 64 words. W k, counted from 1, is words[k - 1].
-use endian::at_least;
-use refusal::COUNT_OUT_OF_BOUNDS;
-use refusal::MISPLACED;
-use refusal::RULE_BROKEN;
-use refusal::Verdict;
-use refusal::and;
-use refusal::check;
-use refusal::or;
-use refusal::within;
-ghost use mathlib.Core.Path.{_≡_};
-ghost use Prim.Native.Nat.{_≤_};
-ghost use lib.Dec.{leb, ltb, eqb};
-ghost use Rattle.lists.specs.Choices.{both, either};
-ghost use Rattle.refusal.specs.Rules.{judge, first, firstFault};
-ghost use Rattle.area_rules.specs.Lines.{lineLength, auditEnd};
-ghost use Rattle.area_rules.specs.Rules.{wordIn, isWidth, count, countRules, prefixOf, lineOf, shapeRules, auditEndOf, placeRules, describedRules, wordRules};
+// AREA files, images: the opening checks as a table, when a file is accepted, its layout, where its samples, blocks and prefix regions are, and its band
+// map. There is no code here: see specs/ and proofs/.
+use endian_rules::Order;
+use refusal_rules::Refusal;
 
-// Refusal 3 at word k, after what came before, unless the word is from `low` to `high`.
-fn count(verdict: Verdict, words: &[u32; 64], k: usize, low: u32, high: u32) -> Verdict
-    requires { ⌜ (1 ≤ k) × (k ≤ 64) ⌝ }
-    ensures { λ r. ⌜ r ≡ first verdict (judge (count (wordIn (now (words .entry))) k low high)) ⌝ }
-{
-    check(
-        verdict,
-        within(low, high, words[k - 1]),
-        COUNT_OUT_OF_BOUNDS,
-        k,
-    )
+// What opening an AREA file finds: the byte order in which word 2 reads 4 and the file's length in bytes; and as raw words the lines (W9), the
+// elements of a line (W10), the bytes of a sample (W11), the bands (W14), the bytes of a line prefix (W15), the band map (W19, and W20, which is 0
+// unless there are more than 32 bands), the starts of DATA (W34) and NAV (W35), the bytes of documentation (W49), calibration (W50) and band list
+// (W51) in a line prefix, the starts of AUX (W60) and CAL (W63), the comment cards (W64), and whether W36 is 0, where lines have no validity code.
+// A start of 0 means that there is no such block. "Layout" is document 01's term.
+pub struct AreaLayout {
+    pub order: Order,
+    pub length: usize,
+    pub lines: u32,
+    pub elements: u32,
+    pub width: u32,
+    pub bands: u32,
+    pub prefix: u32,
+    pub map: u32,
+    pub map2: u32,
+    pub start: u32,
+    pub nav: u32,
+    pub documentation: u32,
+    pub calibration: u32,
+    pub list: u32,
+    pub aux: u32,
+    pub cal: u32,
+    pub cards: u32,
+    pub plain: bool,
 }
 
-// Whether a sample may have n bytes.
-fn is_width(n: u32) -> bool
-    ensures { λ r. ⌜ r ≡ isWidth n ⌝ }
-{
-    or(n == 1, or(n == 2, n == 4))
+// What opening an AREA file answers: its layout, or a refusal.
+pub enum AreaOpening {
+    Opened(AreaLayout),
+    Refused(Refusal),
 }
 
-// What the counts say.
-fn count_verdict(words: &[u32; 64]) -> Verdict
-    ensures { λ r. ⌜ r ≡ firstFault (countRules (wordIn (now (words .entry)))) ⌝ }
-{
-    let a = count(Verdict::Pass, words, 9, 1, 65535);
-    let b = count(a, words, 10, 1, 65535);
-    let c = check(b, is_width(words[10]), COUNT_OUT_OF_BOUNDS, 11);
-    let d = count(c, words, 14, 1, 64);
-    let e = count(d, words, 49, 0, 65535);
-    let f = count(e, words, 50, 0, 65535);
-    let g = count(f, words, 51, 0, 65535);
-    let h = count(g, words, 61, 0, 65535);
-    count(h, words, 64, 0, 65535)
+// The blocks of an AREA file: the directory, navigation, calibration, the supplemental block, the image lines, and the comment cards.
+pub enum Block {
+    Dir,
+    Nav,
+    Cal,
+    Aux,
+    Data,
+    Audit,
 }
 
-// The prefix length that the words give, which W15 has to be, where the counts passed.
-fn prefix_length(words: &[u32; 64]) -> u32
-    requires { ⌜ firstFault (countRules (wordIn (now words))) ≡ Verdict.Pass ⌝ }
-    ensures { λ r. ⌜ r ≡ prefixOf (wordIn (now (words .entry))) ⌝ }
-{
-    let regions = words[48] + words[49] + words[50];
-    if words[35] == 0 { regions } else { 4 + regions }
+// The regions of a line prefix, in their order.
+pub enum Region {
+    Validity,
+    Documentation,
+    Calibration,
+    BandList,
 }
 
-// The bytes of a line, of numbers within the bounds of the counts, so that the product fits.
-fn length_of_line(prefix: u32, bands: u32, elements: u32, width: u32) -> usize
-    requires { ⌜ (bands ≤ 64) × ((elements ≤ 65535) × (width ≤ 4)) ⌝ }
-    ensures { λ r. ⌜ r ≡ lineLength prefix bands elements width ⌝ }
-{
-    prefix as usize + bands as usize * elements as usize * width as usize
-}
-
-// The line length that the words give, where the counts passed.
-fn line_length(words: &[u32; 64]) -> usize
-    requires { ⌜ firstFault (countRules (wordIn (now words))) ≡ Verdict.Pass ⌝ }
-    ensures { λ r. ⌜ r ≡ lineOf (wordIn (now (words .entry))) ⌝ }
-{
-    length_of_line(words[14], words[13], words[9], words[10])
-}
-
-// The byte after AUDIT. The bounds are those of the counts, and of a line: 196,609 bytes of prefix and 16,776,960 of samples.
-fn end_of_audit(start: u32, lines: u32, line: usize, cards: u32) -> usize
-    requires { ⌜ (lines ≤ 65535) × ((line ≤ 16973569) × (cards ≤ 65535)) ⌝ }
-    ensures { λ r. ⌜ r ≡ auditEnd start lines line cards ⌝ }
-{
-    start as usize + lines as usize * line + 80 * cards as usize
-}
-
-// The byte after AUDIT that the words give, where the rules before passed.
-fn audit_end(words: &[u32; 64]) -> usize
-    requires { ⌜ (firstFault (countRules (wordIn (now words))) ≡ Verdict.Pass) × (firstFault (shapeRules (wordIn (now words))) ≡ Verdict.Pass) ⌝ }
-    ensures { λ r. ⌜ r ≡ auditEndOf (wordIn (now (words .entry))) ⌝ }
-{
-    end_of_audit(words[33], words[8], line_length(words), words[63])
-}
-
-// What the rules of the words that follow from others say, where the counts passed.
-fn shape_verdict(words: &[u32; 64]) -> Verdict
-    requires { ⌜ firstFault (countRules (wordIn (now words))) ≡ Verdict.Pass ⌝ }
-    ensures { λ r. ⌜ r ≡ firstFault (shapeRules (wordIn (now (words .entry)))) ⌝ }
-{
-    let a = check(Verdict::Pass, words[48] % 4 == 0, RULE_BROKEN, 49);
-    let b = check(a, words[49] % 4 == 0, RULE_BROKEN, 50);
-    let c = check(b, words[50] % 4 == 0, RULE_BROKEN, 51);
-    let d = check(c, words[14] == prefix_length(words), RULE_BROKEN, 15);
-    let e = check(d, line_length(words) % 4 == 0, RULE_BROKEN, 10);
-    check(e, or(words[59] != 0, words[60] == 0), RULE_BROKEN, 61)
-}
-
-// Whether a block may start at x, in a file of `told` bytes with DATA and AUDIT from `start` to `end`. `after` is whether x, as a signed word, is at
-// least 256, and `unequal` whether x is unequal to the earlier starts.
-fn start_fits(told: usize, start: u32, end: usize, x: u32, after: bool, unequal: bool) -> bool
-    ensures { λ r. ⌜ r ≡ either (eqb x 0) (both after (both (ltb x told) (both (either (ltb x start) (leb end x)) unequal))) ⌝ }
-{
-    let outside = or(x < start, end <= x as usize);
-    let apart = and((x as usize) < told, and(outside, unequal));
-    or(x == 0, and(after, apart))
-}
-
-// What the rules of the places say, in a file of `told` bytes, where the rules before passed.
-fn place_verdict(told: usize, words: &[u32; 64]) -> Verdict
-    requires { ⌜ (firstFault (countRules (wordIn (now words))) ≡ Verdict.Pass) × (firstFault (shapeRules (wordIn (now words))) ≡ Verdict.Pass) ⌝ }
-    ensures { λ r. ⌜ r ≡ firstFault (placeRules told (wordIn (now (words .entry)))) ⌝ }
-{
-    let end = audit_end(words);
-    let start = words[33];
-    let nav = words[34];
-    let cal = words[62];
-    let aux = words[59];
-    let inside = and(at_least(256, start), end <= told);
-    let a = check(Verdict::Pass, inside, MISPLACED, 34);
-    let nav_fits = start_fits(told, start, end, nav, at_least(256, nav), true);
-    let b = check(a, nav_fits, MISPLACED, 35);
-    let cal_fits = start_fits(told, start, end, cal, at_least(256, cal), cal != nav);
-    let c = check(b, cal_fits, MISPLACED, 63);
-    let unequal = and(aux != nav, aux != cal);
-    let aux_fits = start_fits(told, start, end, aux, at_least(256, aux), unequal);
-    check(c, aux_fits, MISPLACED, 60)
-}
-
-// What the rules of counts and of the words that follow from them say of a directory's 64 words: 3 and 4 with document 01's places. These rules
-// look neither at a file nor at a start, but for whether W60 is 0.
-pub fn described_verdict(words: &[u32; 64]) -> Verdict
-    ensures { λ r. ⌜ r ≡ firstFault (describedRules (wordIn (now (words .entry)))) ⌝ }
-{
-    match count_verdict(words) {
-        Verdict::Fault(refusal) => Verdict::Fault(refusal),
-        Verdict::Pass => shape_verdict(words),
-    }
-}
-
-// What all rules of the words but W2 say of a directory's 64 words and a file of `told` bytes: 3, 4 and 5 with document 01's places.
-pub fn word_verdict(told: usize, words: &[u32; 64]) -> Verdict
-    ensures { λ r. ⌜ r ≡ firstFault (wordRules told (wordIn (now (words .entry)))) ⌝ }
-{
-    match described_verdict(words) {
-        Verdict::Fault(refusal) => Verdict::Fault(refusal),
-        Verdict::Pass => place_verdict(told, words),
-    }
+// Which sample of an element is meant: the one at a slot, counted from 0, or that of a band, counted from 1, which stands for its slot.
+pub enum SlotOrBand {
+    Slot(u32),
+    Band(u32),
 }

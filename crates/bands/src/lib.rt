@@ -1,21 +1,16 @@
 // The band map of an AREA file: the slot at which a band lies within each element.
-use area::AreaLayout;
-use refusal::NO_SUCH;
-use refusal::NumberAnswer;
-use refusal::RULE_BROKEN;
-use refusal::Verdict;
+use area_rules::AreaLayout;
+use area_rules::SlotOrBand;
 use refusal::check;
 use refusal::within;
+use refusal_rules::NO_SUCH;
+use refusal_rules::NumberAnswer;
+use refusal_rules::RULE_BROKEN;
+use refusal_rules::Verdict;
 ghost use mathlib.Core.Path.{_≡_};
-ghost use Prim.Native.Nat.{_≤_, _<_};
-ghost use Rattle.refusal.specs.Answers.{numberSays};
-ghost use Rattle.bands.specs.Bands.{mapBit, setBelow, hasBand, bandSlot, slotOf};
-
-// Which sample of an element is meant: the one at a slot, counted from 0, or that of a band, counted from 1, which stands for its slot.
-pub enum Channel {
-    Slot(u32),
-    Band(u32),
-}
+ghost use Prim.Native.Nat.{_<_, _≤_};
+ghost use Rattle.refusal_rules.specs.Answers.{numberSays};
+ghost use Rattle.area_rules.specs.Bands.{mapBit, setBelow, hasBand, bandSlot, slotOf};
 
 // Bit i of the band map, that of band i + 1.
 fn map_bit(map: u32, map2: u32, i: u32) -> u32
@@ -68,14 +63,14 @@ fn slot_of_band(map: u32, map2: u32, bands: u32, band: u32) -> NumberAnswer
 
 // The slot that a channel of a layout means. Refused with 4 at 19 where a band is named and the band map is unusable, and with 7 where there is no such
 // slot or band.
-pub fn slot_of(layout: AreaLayout, channel: Channel) -> NumberAnswer
+pub fn slot_of(layout: AreaLayout, channel: SlotOrBand) -> NumberAnswer
     ensures { λ r. ⌜ numberSays r ≡ slotOf layout channel ⌝ }
 {
     match channel {
-        Channel::Slot(slot) => match check(Verdict::Pass, slot < layout.bands, NO_SUCH, 0) {
+        SlotOrBand::Slot(slot) => match check(Verdict::Pass, slot < layout.bands, NO_SUCH, 0) {
             Verdict::Fault(refusal) => NumberAnswer::Refused(refusal),
             Verdict::Pass => NumberAnswer::Value(slot),
         },
-        Channel::Band(band) => slot_of_band(layout.map, layout.map2, layout.bands, band),
+        SlotOrBand::Band(band) => slot_of_band(layout.map, layout.map2, layout.bands, band),
     }
 }

@@ -1,43 +1,21 @@
-// Dates and times of day, as file headers have them.
-use refusal::NO_DATE;
-use refusal::Refusal;
-use refusal::Verdict;
+// Dates and times of day, as file headers have them: what a date word and a time word answer.
+use calendar_rules::Date;
+use calendar_rules::DateAnswer;
+use calendar_rules::TimeAnswer;
+use calendar_rules::TimeOfDay;
 use refusal::and;
 use refusal::check;
 use refusal::or;
 use refusal::within;
+use refusal_rules::NO_DATE;
+use refusal_rules::Refusal;
+use refusal_rules::Verdict;
 ghost use mathlib.Core.Path.{_≡_};
+ghost use Prim.Native.Nat.{_<_, _≤_};
 ghost use lib.IntN.{pos};
-ghost use Prim.Native.Nat.{_≤_, _<_};
-ghost use Rattle.calendar.specs.Gregorian.{leap, daysBefore, yearLength, monthOf, dateIn};
-ghost use Rattle.calendar.specs.Dates.{dateSays, dateOf};
-ghost use Rattle.calendar.specs.Times.{timeSays, timeOf};
-
-// A date of the Gregorian calendar. Months and days are counted from 1.
-pub struct Date {
-    pub year: u32,
-    pub month: u32,
-    pub day: u32,
-}
-
-// What a date word answers: its date, or a refusal.
-pub enum DateAnswer {
-    On(Date),
-    Refused(Refusal),
-}
-
-// A time of day.
-pub struct TimeOfDay {
-    pub hours: u32,
-    pub minutes: u32,
-    pub seconds: u32,
-}
-
-// What a time word answers: its time of day, or a refusal.
-pub enum TimeAnswer {
-    At(TimeOfDay),
-    Refused(Refusal),
-}
+ghost use Rattle.calendar_rules.specs.Gregorian.{leap, daysBefore, yearLength, monthOf, dateIn};
+ghost use Rattle.calendar_rules.specs.Dates.{dateSays, dateOf};
+ghost use Rattle.calendar_rules.specs.Times.{timeSays, timeOf};
 
 // The days of a year before each of its months: of a common year, and then of a leap year.
 const DAYS_BEFORE: [u32; 24] = [

@@ -1,23 +1,41 @@
-// GRID files, gridded fields: opening a grid, each slot's grid compared with all earlier ones.
-use endian::Order;
-use endian::read_word;
+// GRID files, gridded fields: opening a grid, each slot's grid compared with all earlier ones, and comparing layouts.
+use endian::order_number;
+use endian_rules::Order;
+use endian_steps::read_word;
 use grid_rules::EMPTY_SLOT;
+use grid_rules::GridLayout;
 use grid_rules::GridOpening;
-use grid_rules::head_verdict;
-use grid_rules::meets_slot;
-use grid_rules::open_wanted;
-use grid_rules::own_verdict;
-use refusal::MISPLACED;
-use refusal::Verdict;
+use grid_steps::head_verdict;
+use grid_steps::meets_slot;
+use grid_steps::open_wanted;
+use grid_steps::own_verdict;
+use refusal::and;
 use refusal::check;
+use refusal::equal_and;
+use refusal_rules::MISPLACED;
+use refusal_rules::Verdict;
 ghost use mathlib.Core.Path.{_≡_};
 ghost use Prim.Native.Nat.{_<_};
 ghost use lib.ListN.{length};
-ghost use Rattle.endian.specs.Words.{wordAt};
-ghost use Rattle.refusal.specs.Rules.{firstFault};
-ghost use Rattle.grid_rules.specs.Rules.{shares, slotRules, slotsRules, fileRules};
-ghost use Rattle.grid_rules.specs.Accepts.{Room};
-ghost use Rattle.grid_rules.specs.Opening.{gridSays, openGrid};
+ghost use Rattle.endian_rules.specs.Words.{wordAt};
+ghost use Rattle.refusal_rules.specs.Rules.{firstFault};
+ghost use Rattle.grid_rules.specs.Opening.{sameGrid, gridSays, openGrid};
+ghost use Rattle.grid_rules.specs.Rules.{shares, slotsRules, slotRules, gridFileRules};
+ghost use Rattle.grid_rules.specs.Accepts.{GridRoom};
+
+// Whether two layouts are the same in every field.
+pub fn same_grid(a: GridLayout, b: GridLayout) -> bool
+    ensures { λ r. ⌜ r ≡ sameGrid a b ⌝ }
+{
+    let a_order = a.order;
+    let b_order = b.order;
+    let columns = equal_and(a.columns, b.columns, true);
+    let rows = equal_and(a.rows, b.rows, columns);
+    let offset = equal_and(a.offset, b.offset, rows);
+    let number = equal_and(a.number, b.number, offset);
+    let length = and(a.length == b.length, number);
+    equal_and(order_number(a_order), order_number(b_order), length)
+}
 
 // Whether one of the first k slots has a word from `low` up to `high`. Their checks must have passed.
 fn shared(
@@ -29,7 +47,7 @@ fn shared(
     low: usize,
     high: usize,
 ) -> bool
-    requires { ⌜ Room (length (now file)) n next × ((k < n) × (firstFault (slotsRules (wordAt order (now file)) n next k) ≡ Verdict.Pass)) ⌝ }
+    requires { ⌜ GridRoom (length (now file)) n next × ((k < n) × (firstFault (slotsRules (wordAt order (now file)) n next k) ≡ Verdict.Pass)) ⌝ }
     ensures { λ r. ⌜ r ≡ shares (wordAt order (now (file .entry))) low high k ⌝ }
 {
     let mut j = 0;
@@ -44,7 +62,7 @@ fn shared(
 
 // What the checks of slot k say. Those of the slots before it must have passed.
 fn slot_verdict(file: &[u8], order: Order, n: usize, next: usize, k: usize) -> Verdict
-    requires { ⌜ Room (length (now file)) n next × ((k < n) × (firstFault (slotsRules (wordAt order (now file)) n next k) ≡ Verdict.Pass)) ⌝ }
+    requires { ⌜ GridRoom (length (now file)) n next × ((k < n) × (firstFault (slotsRules (wordAt order (now file)) n next k) ≡ Verdict.Pass)) ⌝ }
     ensures { λ r. ⌜ r ≡ firstFault (slotRules (wordAt order (now (file .entry))) n next k) ⌝ }
 {
     let word = read_word(order, file, 11 + k);
@@ -64,7 +82,7 @@ fn slot_verdict(file: &[u8], order: Order, n: usize, next: usize, k: usize) -> V
 
 // What the checks of all n slots say, slot by slot.
 fn slots_verdict(file: &[u8], order: Order, n: usize, next: usize) -> Verdict
-    requires { ⌜ Room (length (now file)) n next ⌝ }
+    requires { ⌜ GridRoom (length (now file)) n next ⌝ }
     ensures { λ r. ⌜ r ≡ firstFault (slotsRules (wordAt order (now (file .entry))) n next n) ⌝ }
 {
     let mut k = 0;
@@ -83,7 +101,7 @@ fn slots_verdict(file: &[u8], order: Order, n: usize, next: usize) -> Verdict
 // What the checks of a whole GRID file say, before a grid of it is asked for: 1 to 5 with document 01's places. The first fault of the lowest
 // slot that has one comes first.
 pub fn file_verdict(file: &[u8], order: Order) -> Verdict
-    ensures { λ r. ⌜ r ≡ firstFault (fileRules (length (now (file .entry))) (wordAt order (now (file .entry)))) ⌝ }
+    ensures { λ r. ⌜ r ≡ firstFault (gridFileRules (length (now (file .entry))) (wordAt order (now (file .entry)))) ⌝ }
 {
     match head_verdict(file, order) {
         Verdict::Fault(refusal) => Verdict::Fault(refusal),

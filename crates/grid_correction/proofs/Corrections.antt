@@ -1,4 +1,4 @@
--- What the corrections of the example give: a corrected point reads back its value, and two corrections of different points may be made in either order.
+-- ValueName the corrections of the example give: a corrected point reads back its value, and two corrections of different points may be made in either order.
 -- Assumes nothing.
 use mathlib.Core.Path.{_≡_, refl, sym, ap, subst, _∙_}
 use mathlib.Core.List.{List, [], _∷_, List·Memᴰ·head, List·Memᴰ·tail, List·Memᴰ·not-nil, List·Permᴰ·swap, Permᴰ·refl}
@@ -7,27 +7,27 @@ use lib.IntN.{ℤ}
 use lib.ListN.{getD}
 use mir.Syntax.{w32}
 use mir.Val.{SFits}
-use Rattle.endian.specs.declared.Order.{Order}
-use Rattle.refusal.specs.Answers.{gives, mapped}
-use Rattle.refusal.proofs.Answers.{mapped-gives}
-use Rattle.refusal.specs.declared.Place.{Place}
-use Rattle.plan.specs.Plans.{outcome, SucceedsAt}
-use Rattle.plan.specs.Stores.{All}
-use Rattle.plan.specs.Formats.{system}
+use Rattle.endian_rules.specs.declared.Order.{Order}
+use Rattle.refusal_rules.specs.Answers.{gives, mapped}
+use Rattle.refusal_rules.proofs.Answers.{mapped-gives}
+use Rattle.refusal_rules.specs.declared.Place.{Place}
+use Rattle.store_theory.specs.Plans.{outcome, SucceedsAt}
+use Rattle.store_theory.specs.Stores.{All}
+use Rattle.store_theory.specs.Formats.{system}
 use Rattle.grid_rules.specs.Opening.{openGrid}
 use Rattle.grid_rules.specs.declared.GridLayout.{GridLayout}
-use Rattle.layout.specs.Layouts.{kindOf, orderOf}
-use Rattle.layout.specs.declared.Layout.{Layout}
-use Rattle.layout.specs.declared.Layout.the-variants.{Grid}
-use Rattle.places.specs.declared.What.the-variants.{Point}
-use Rattle.places.proofs.Places.{Located, point-at, points-named}
-use Rattle.values.specs.Reading.{readPoint}
-use Rattle.values.proofs.Reading.{point-located}
-use Rattle.store_plans.specs.Stores.{Store, Done, signed, point, planOf, storesIn, storePoint, storeFormat}
-use Rattle.store_plans.proofs.Stores.{order-does-not-matter}
-use Rattle.store_plans.proofs.Single.{reads-back, done-at, word-done}
+use Rattle.layout_rules.specs.Layouts.{kindOf, layoutOrder}
+use Rattle.layout_rules.specs.declared.Layout.{Layout}
+use Rattle.layout_rules.specs.declared.Layout.the-variants.{Grid}
+use Rattle.value_rules.specs.declared.ValueName.the-variants.{Point}
+use Rattle.value_rules.proofs.Places.{Located, point-at, points-named}
+use Rattle.value_rules.specs.Reading.{readPoint}
+use Rattle.value_rules.proofs.Reading.{point-located}
+use Rattle.store_rules.specs.Stores.{Store, Done, signed, point, planOf, storesIn, storePoint, storeFormat}
+use Rattle.store_rules.proofs.Stores.{order-does-not-matter}
+use Rattle.store_rules.proofs.Single.{reads-back, done-at, word-done}
 use Rattle.grid_correction.specs.Corrections.{correctedBy, correctPoint, storeOf, twoSay, correctTwo}
-use Rattle.stores.proofs.Answers.{store-settled}
+use Rattle.store_rules.proofs.Answers.{store-settled}
 use Rattle.grid_correction.specs.declared.Correction.{Correction}
 use Rattle.grid_correction.specs.declared.TwoAnswers.{TwoAnswers}
 
@@ -77,7 +77,7 @@ pub either-order : (f : List ℕ) (l : Layout) (x y : Correction) → SFits w32 
     → ¬ ((x .row ≡ y .row) × (x .column ≡ y .column)) → EitherOrder f l x y
 unfolding outcome
 either-order f l x y typed typed′ other =
-    let free = order-does-not-matter .claim (kindOf l) (orderOf l) f two fit (apart, ((λ t m. absurd (List·Memᴰ·not-nil m)), tt)) .free in
+    let free = order-does-not-matter .claim (kindOf l) (layoutOrder l) f two fit (apart, ((λ t m. absurd (List·Memᴰ·not-nil m)), tt)) .free in
     let swapped = List·Permᴰ·swap refl refl in
     record {
       bytes = free .same two (Permᴰ·refl two) ∙ sym (free .same (storeOf l y ∷ storeOf l x ∷ []) swapped);
@@ -89,7 +89,7 @@ either-order f l x y typed typed′ other =
     two = storeOf l x ∷ storeOf l y ∷ []
 
     Fit : Store → Type 0
-    Fit s = system storeFormat (record { kind = kindOf l; order = orderOf l }) .Fit s
+    Fit s = system storeFormat (record { kind = kindOf l; order = layoutOrder l }) .Fit s
 
     fit : All Fit two
     fit s (List·Memᴰ·head same) = subst Fit (sym same) (refl, typed)

@@ -3,15 +3,15 @@
 use mathlib.Core.List.{List, [], _∷_}
 use Prim.Native.Nat.{ℕ}
 use lib.IntN.{ℤ}
-use Rattle.endian.specs.declared.Order.{Order}
-use Rattle.refusal.specs.Answers.{Answer, gives, refuses, mapped}
-use Rattle.plan.specs.Series.{leaves, replies}
+use Rattle.endian_rules.specs.declared.Order.{Order}
+use Rattle.refusal_rules.specs.Answers.{Answer, gives, refuses, mapped}
+use Rattle.store_theory.specs.Series.{leaves, replies}
 use Rattle.grid_rules.specs.Opening.{openGrid}
-use Rattle.layout.specs.declared.Layout.{Layout}
-use Rattle.layout.specs.declared.Layout.the-variants.{Grid}
-use Rattle.values.specs.Reading.{readPoint}
-use Rattle.store_plans.specs.Stores.{Store, Done, point, storesIn, storePoint}
-use Rattle.stores.specs.Answers.{storeSays}
+use Rattle.layout_rules.specs.declared.Layout.{Layout}
+use Rattle.layout_rules.specs.declared.Layout.the-variants.{Grid}
+use Rattle.value_rules.specs.Reading.{readPoint}
+use Rattle.store_rules.specs.Stores.{Store, Done, point, storesIn, storePoint}
+use Rattle.store_rules.specs.Answers.{storeSays}
 use Rattle.grid_correction.specs.declared.Correction.{Correction}
 use Rattle.grid_correction.specs.declared.TwoAnswers.{TwoAnswers}
 

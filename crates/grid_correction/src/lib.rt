@@ -1,18 +1,31 @@
 // An example of use: points of a grid are corrected in place.
-use endian::Order;
-use layout::Layout;
-use layout::Opening;
+use endian_rules::Order;
 use layout::open_grid;
-use refusal::WordAnswer;
-use stores::StoreAnswer;
+use layout_rules::Layout;
+use layout_rules::Opening;
+use reads::read_point;
+use refusal_rules::WordAnswer;
+use store_rules::StoreAnswer;
 use stores::store_point;
-use values::read_point;
 ghost use mathlib.Core.Path.{_≡_};
-ghost use Rattle.refusal.specs.Answers.{wordSays};
+ghost use Rattle.refusal_rules.specs.Answers.{wordSays};
 ghost use Rattle.grid_correction.specs.Corrections.{correctPoint, twoSay, correctTwo};
 
+// A correction of a grid: a row, a column and the value that the point should have.
+pub struct Correction {
+    pub row: u32,
+    pub column: u32,
+    pub value: i32,
+}
+
+// What two stores answer.
+pub struct TwoAnswers {
+    pub first: StoreAnswer,
+    pub second: StoreAnswer,
+}
+
 // Corrects the point of a row and a column of a grid: the file is opened, the value that the point has is read, and the value that it should have is stored in its
-// place. Answers the old value. Refused as `layout::open_grid` and then as `values::read_point`; the file is then as it was.
+// place. Answers the old value. Refused as `layout::open_grid` and then as `reads::read_point`; the file is then as it was.
 pub fn correct_point(
     file: &mut [u8],
     order: Order,
@@ -31,19 +44,6 @@ pub fn correct_point(
             old
         }
     }
-}
-
-// A correction of a grid: a row, a column and the value that the point should have.
-pub struct Correction {
-    pub row: u32,
-    pub column: u32,
-    pub value: i32,
-}
-
-// What two stores answer.
-pub struct TwoAnswers {
-    pub first: StoreAnswer,
-    pub second: StoreAnswer,
 }
 
 // Makes two corrections with a layout, one after the other. Each is refused as `stores::store_point`, and then changes nothing.

@@ -1,19 +1,19 @@
 // Where the points of a grid lie, by a layout alone. A layout may be one that a caller has made up: where a field of it is above the bounds that opening sets,
 // there is no such point, and nothing is computed from it.
 use grid_rules::GridLayout;
-use refusal::NO_SUCH;
-use refusal::Place;
-use refusal::PlaceAnswer;
-use refusal::Verdict;
 use refusal::and;
 use refusal::check;
 use refusal::within;
+use refusal_rules::NO_SUCH;
+use refusal_rules::Place;
+use refusal_rules::PlaceAnswer;
+use refusal_rules::Verdict;
 ghost use mathlib.Core.Path.{_≡_};
-ghost use Rattle.refusal.specs.Answers.{placeSays};
-ghost use Rattle.refusal.specs.Rules.{firstFault};
-ghost use Rattle.grid.specs.Points.{pointWord, IsPoint};
-ghost use Rattle.grid_places.specs.Bounds.{GridBounds};
-ghost use Rattle.grid_places.specs.Places.{pointRules, pointPlace};
+ghost use Rattle.refusal_rules.specs.Rules.{firstFault};
+ghost use Rattle.refusal_rules.specs.Answers.{placeSays};
+ghost use Rattle.grid_rules.specs.Places.{pointRules, pointPlace};
+ghost use Rattle.grid_rules.specs.Points.{pointWord, IsPoint};
+ghost use Rattle.grid_rules.specs.Bounds.{GridBounds};
 
 // Whether there is such a point.
 fn point_verdict(l: GridLayout, row: u32, column: u32) -> Verdict

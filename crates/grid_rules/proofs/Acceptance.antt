@@ -7,24 +7,24 @@ use mathlib.Core.List.{List, _++_}
 use Prim.Native.Nat.{ℕ, _+_, _-_, _*_, _≤_, _<_}
 use native.Mathlib.Omega.{arith}
 use lib.ListN.{length, getD}
-use Rattle.endian.specs.Words.{wordAt}
-use Rattle.endian.specs.declared.Order.{Order}
-use Rattle.endian.specs.declared.Order.the-variants.{Big, Little}
-use Rattle.endian.proofs.Places.{one-order, order-same}
-use Rattle.endian.proofs.Signs.{signed-at-least}
+use Rattle.endian_rules.specs.Words.{wordAt}
+use Rattle.endian_rules.specs.declared.Order.{Order}
+use Rattle.endian_rules.specs.declared.Order.the-variants.{Big, Little}
+use Rattle.endian_rules.proofs.Places.{one-order, order-same}
+use Rattle.endian_rules.proofs.Signs.{signed-at-least}
 use Rattle.lists.proofs.Rows.{compared}
-use Rattle.refusal.specs.Rules.{Rule, first, firstFault, Hold, FirstFailing}
-use Rattle.refusal.specs.Answers.{Answer, gives, refuses, answered}
-use Rattle.refusal.specs.Tests.{Exactly}
-use Rattle.refusal.specs.declared.Refusal.{Refusal}
-use Rattle.refusal.specs.declared.Verdict.{Verdict}
-use Rattle.refusal.specs.declared.Verdict.the-variants.{Pass, Fault}
-use Rattle.refusal.proofs.Answers.{settled, value-exactly, refusal-exactly}
-use Rattle.refusal.proofs.Exactness.{eq-exactly, not-exactly, within-exactly, by-numbers}
-use Rattle.refusal.proofs.Tables.{pass-hold, hold-pass, firstFault-append, joined, hold-append}
-use Rattle.grid_rules.specs.Rules.{nextFree, emptySlot, gridEnd, headRules, slotsRules, fileRules, wantedRules}
-use Rattle.grid_rules.specs.Accepts.{Full, Room, AcceptsSlot, AcceptsFile, Accepts}
-use Rattle.grid_rules.specs.Opening.{gridSays, layoutOf, openWanted, openWords, openGrid, gridNumbers, sameGrid}
+use Rattle.refusal_rules.specs.Rules.{Rule, first, firstFault, Hold, FirstFailing}
+use Rattle.refusal_rules.specs.Answers.{Answer, gives, refuses, answered}
+use Rattle.refusal_rules.specs.Tests.{Exactly}
+use Rattle.refusal_rules.specs.declared.Refusal.{Refusal}
+use Rattle.refusal_rules.specs.declared.Verdict.{Verdict}
+use Rattle.refusal_rules.specs.declared.Verdict.the-variants.{Pass, Fault}
+use Rattle.refusal_rules.proofs.Answers.{settled, value-exactly, refusal-exactly}
+use Rattle.refusal_rules.proofs.Exactness.{eq-exactly, not-exactly, within-exactly, by-numbers}
+use Rattle.refusal_rules.proofs.Tables.{pass-hold, hold-pass, firstFault-append, joined, hold-append}
+use Rattle.grid_rules.specs.Rules.{nextFree, emptySlot, gridEnd, gridHeadRules, slotsRules, gridFileRules, wantedRules}
+use Rattle.grid_rules.specs.Accepts.{FullSlot, GridRoom, AcceptsGridSlot, AcceptsGridFile, AcceptsGrid}
+use Rattle.grid_rules.specs.Opening.{gridSays, gridLayoutOf, openWanted, openGridWords, openGrid, gridNumbers, sameGrid}
 use Rattle.grid_rules.specs.declared.GridLayout.{GridLayout}
 use Rattle.grid_rules.specs.declared.GridOpening.{GridOpening}
 use Rattle.grid_rules.specs.declared.GridOpening.the-variants.{Opened, Refused}
@@ -75,38 +75,38 @@ answered-first Pass b l = refl
 answered-first (Fault r) b l = refl
 
 -- opening is `openWanted` where the file's verdict is a pass, and refuses the file's fault otherwise
-pub open-split : (o : Order) (len : ℕ) (w : ℕ → ℕ) (number : ℕ) (v : Verdict) → firstFault (fileRules len w) ≡ v
-    → openWords o len w number ≡ after v (openWanted o len w number)
-unfolding openWords openWanted
+pub open-split : (o : Order) (len : ℕ) (w : ℕ → ℕ) (number : ℕ) (v : Verdict) → firstFault (gridFileRules len w) ≡ v
+    → openGridWords o len w number ≡ after v (openWanted o len w number)
+unfolding openGridWords openWanted
 open-split o len w number v e =
-    ap (λ (x : Verdict). answered x (layoutOf o len w number)) (firstFault-append (fileRules len w) (wantedRules w number))
-    ∙ answered-first (firstFault (fileRules len w)) (firstFault (wantedRules w number)) (layoutOf o len w number)
+    ap (λ (x : Verdict). answered x (gridLayoutOf o len w number)) (firstFault-append (gridFileRules len w) (wantedRules w number))
+    ∙ answered-first (firstFault (gridFileRules len w)) (firstFault (wantedRules w number)) (gridLayoutOf o len w number)
     ∙ ap (λ (x : Verdict). after x (openWanted o len w number)) e
 
 -- ---- what acceptance is
 
 -- what the checks of a whole file say, where those before the slots come to a verdict
-pub file-split : (len : ℕ) (w : ℕ → ℕ) (v : Verdict) → firstFault (headRules len w) ≡ v
-    → firstFault (fileRules len w) ≡ first v (firstFault (slotsRules w (w 10) (nextFree w) (w 10)))
-unfolding fileRules
-file-split len w v e = joined (headRules len w) (slotsRules w (w 10) (nextFree w) (w 10)) v e
+pub file-split : (len : ℕ) (w : ℕ → ℕ) (v : Verdict) → firstFault (gridHeadRules len w) ≡ v
+    → firstFault (gridFileRules len w) ≡ first v (firstFault (slotsRules w (w 10) (nextFree w) (w 10)))
+unfolding gridFileRules
+file-split len w v e = joined (gridHeadRules len w) (slotsRules w (w 10) (nextFree w) (w 10)) v e
 
 -- the rules of a whole file hold exactly where it is accepted
-pub file-exactly : (len : ℕ) (w : ℕ → ℕ) → Hold (fileRules len w) ↔ AcceptsFile len w
-unfolding fileRules
+pub file-exactly : (len : ℕ) (w : ℕ → ℕ) → Hold (gridFileRules len w) ↔ AcceptsGridFile len w
+unfolding gridFileRules
 file-exactly len w =
     let slots : List Rule = slotsRules w (w 10) (nextFree w) (w 10) in
-    let both = hold-append (headRules len w) slots in
+    let both = hold-append (gridHeadRules len w) slots in
     let x = slots-exactly w (w 10) (nextFree w) (w 10) in (
       λ h. record { head = head-exactly len w .0 (both .0 h .0); slots = x .0 (hold-pass slots (both .0 h .1)) },
       λ a. both .1 (head-exactly len w .1 (a .head), pass-hold slots (x .1 (a .slots))),
     )
 
 -- by their verdict
-pub file-passes : (len : ℕ) (w : ℕ → ℕ) → (firstFault (fileRules len w) ≡ Pass) ↔ AcceptsFile len w
+pub file-passes : (len : ℕ) (w : ℕ → ℕ) → (firstFault (gridFileRules len w) ≡ Pass) ↔ AcceptsGridFile len w
 file-passes len w = (
-  λ e. file-exactly len w .0 (pass-hold (fileRules len w) e),
-  λ a. hold-pass (fileRules len w) (file-exactly len w .1 a),
+  λ e. file-exactly len w .0 (pass-hold (gridFileRules len w) e),
+  λ a. hold-pass (gridFileRules len w) (file-exactly len w .1 a),
 )
 
 -- the rules of the wanted grid hold exactly where the file has its number, and its slot is not empty
@@ -119,12 +119,12 @@ wanted-exactly w number =
 
 -- a grid opens exactly where the file and the number are accepted, and then with the layout that the words give
 pub grid-exactly : (o : Order) (f : List ℕ) (number : ℕ) (l : GridLayout)
-    → (openGrid o f number ≡ gives l) ↔ (Accepts (length f) (wordAt o f) number × (l ≡ layoutOf o (length f) (wordAt o f) number))
-unfolding openGrid openWords
+    → (openGrid o f number ≡ gives l) ↔ (AcceptsGrid (length f) (wordAt o f) number × (l ≡ gridLayoutOf o (length f) (wordAt o f) number))
+unfolding openGrid openGridWords
 grid-exactly o f number l =
     let w : ℕ → ℕ = wordAt o f in
-    let both = hold-append (fileRules (length f) w) (wantedRules w number) in
-    let x = value-exactly (fileRules (length f) w ++ wantedRules w number) (layoutOf o (length f) w number) l in (
+    let both = hold-append (gridFileRules (length f) w) (wantedRules w number) in
+    let x = value-exactly (gridFileRules (length f) w ++ wantedRules w number) (gridLayoutOf o (length f) w number) l in (
       λ e.
           let h = both .0 (x .0 e .0) in
           let wanted = wanted-exactly w number .0 (h .1) in (
@@ -137,7 +137,7 @@ grid-exactly o f number l =
             x .0 e .1,
           ),
       λ a.
-          let g : Accepts (length f) w number = a .0 in
+          let g : AcceptsGrid (length f) w number = a .0 in
           x .1 (
             both .1 (
               file-exactly (length f) w .1 (g .file),
@@ -149,10 +149,10 @@ grid-exactly o f number l =
 
 -- and is refused exactly where a rule fails, with the number and place of the first
 pub grid-refused : (o : Order) (f : List ℕ) (number : ℕ) (r : Refusal)
-    → (openGrid o f number ≡ refuses (r .number) (r .place)) ↔ FirstFailing (fileRules (length f) (wordAt o f) ++ wantedRules (wordAt o f) number) r
-unfolding openGrid openWords
+    → (openGrid o f number ≡ refuses (r .number) (r .place)) ↔ FirstFailing (gridFileRules (length f) (wordAt o f) ++ wantedRules (wordAt o f) number) r
+unfolding openGrid openGridWords
 grid-refused o f number r =
-    refusal-exactly (fileRules (length f) (wordAt o f) ++ wantedRules (wordAt o f) number) (layoutOf o (length f) (wordAt o f) number) r
+    refusal-exactly (gridFileRules (length f) (wordAt o f) ++ wantedRules (wordAt o f) number) (gridLayoutOf o (length f) (wordAt o f) number) r
 
 -- ---- what acceptance gives, in whole numbers
 
@@ -165,12 +165,12 @@ pub record GridAt (len : ℕ) (w : ℕ → ℕ) (offset : ℕ) : Type 0 where
   pub inside : 4 * gridEnd w offset ≤ len
   pub small : gridEnd w offset < 2147483648
 
-module _ (len : ℕ) (w : ℕ → ℕ) (a : AcceptsFile len w) where
+module _ (len : ℕ) (w : ℕ → ℕ) (a : AcceptsGridFile len w) where
   -- that of a slot
-  pub slot-grid : (k : ℕ) → k < w 10 → Full w k → GridAt len w (w (11 + k))
+  pub slot-grid : (k : ℕ) → k < w 10 → FullSlot w k → GridAt len w (w (11 + k))
   slot-grid k l full =
-      let s : AcceptsSlot w (w 10) (nextFree w) k = a .slots k l full in
-      let r : Room len (w 10) (nextFree w) = accepted-room len w (a .head) in
+      let s : AcceptsGridSlot w (w 10) (nextFree w) k = a .slots k l full in
+      let r : GridRoom len (w 10) (nextFree w) = accepted-room len w (a .head) in
       record {
         after-directory = signed-at-least (12 + w 10) (w (11 + k)) .0 (s .offset) .0;
         rows = s .rows;
@@ -187,7 +187,7 @@ module _ (len : ℕ) (w : ℕ → ℕ) (a : AcceptsFile len w) where
       (slot-grid (number - 1) (omega arith))
 
   -- of the grids of two slots, one ends before the other begins
-  pub slots-apart : (i j : ℕ) → i < w 10 → j < w 10 → ¬ (i ≡ j) → Full w i → Full w j
+  pub slots-apart : (i j : ℕ) → i < w 10 → j < w 10 → ¬ (i ≡ j) → FullSlot w i → FullSlot w j
       → (gridEnd w (w (11 + i)) ≤ w (11 + j)) ⊎ (gridEnd w (w (11 + j)) ≤ w (11 + i))
   slots-apart i j li lj other full-i full-j =
       ⊎-elim (λ e. absurd (other e))
@@ -199,8 +199,8 @@ module _ (len : ℕ) (w : ℕ → ℕ) (a : AcceptsFile len w) where
 -- no file opens in both byte orders, whatever the grids
 pub grid-one-order : (f : List ℕ) (g h : ℕ) (l m : GridLayout) → openGrid Big f g ≡ gives l → openGrid Little f h ≡ gives m → ⊥
 grid-one-order f g h l m big little =
-    let a : Accepts (length f) (wordAt Big f) g = grid-exactly Big f g l .0 big .0 in
-    let b : Accepts (length f) (wordAt Little f) h = grid-exactly Little f h m .0 little .0 in
+    let a : AcceptsGrid (length f) (wordAt Big f) g = grid-exactly Big f g l .0 big .0 in
+    let b : AcceptsGrid (length f) (wordAt Little f) h = grid-exactly Little f h m .0 little .0 in
     let x : (1 ≤ wordAt Big f 10) × (wordAt Big f 10 ≤ 1024) = a .file .head .grids in
     let y : (1 ≤ wordAt Little f 10) × (wordAt Little f 10 ≤ 1024) = b .file .head .grids in
     let long : 44 ≤ length f = a .file .head .long in

@@ -9,15 +9,15 @@ use native.Mathlib.Omega.{arith}
 use lib.Dec.{eqb}
 use lib.ListN.{length}
 use borrow.Author.Tests.{eqb-true, eqb-false}
-use Rattle.endian.specs.Words.{wordAt}
-use Rattle.endian.specs.declared.Order.{Order}
+use Rattle.endian_rules.specs.Words.{wordAt}
+use Rattle.endian_rules.specs.declared.Order.{Order}
 use Rattle.lists.specs.Choices.{either}
-use Rattle.refusal.specs.Rules.{judge, first, firstFault}
-use Rattle.refusal.specs.Tests.{within}
-use Rattle.refusal.proofs.Exactness.{within-exactly}
-use Rattle.grid_rules.specs.Rules.{nextFree, emptySlot, isEmpty, gridEnd, headRules, meets, shares, headerRules, sizeRules, ownRules, overlapRule, slotRules, slotsRules, fileRules, wantedRules}
-use Rattle.grid_rules.specs.Accepts.{Full}
-use Rattle.grid_rules.specs.Opening.{layoutOf, openWanted, openWords, openGrid}
+use Rattle.refusal_rules.specs.Rules.{judge, first, firstFault}
+use Rattle.refusal_rules.specs.Tests.{within}
+use Rattle.refusal_rules.proofs.Exactness.{within-exactly}
+use Rattle.grid_rules.specs.Rules.{nextFree, emptySlot, isEmptySlot, gridEnd, gridHeadRules, meets, shares, headerRules, sizeRules, ownRules, overlapRule, slotRules, slotsRules, gridFileRules, wantedRules}
+use Rattle.grid_rules.specs.Accepts.{FullSlot}
+use Rattle.grid_rules.specs.Opening.{gridLayoutOf, openWanted, openGridWords, openGrid}
 use Rattle.grid_rules.proofs.Slots.{number-slot, empty-slot, full-slot}
 use Rattle.grid_rules.proofs.Acceptance.{after, open-split}
 
@@ -45,9 +45,9 @@ module _ (w v : ℕ → ℕ) where
   -- whether a slot has a word of a stretch
   pub meets-same : (low high j : ℕ) → SameSlot w v j → meets v low high j ≡ meets w low high j
   unfolding meets
-  meets-same low high j s = step (isEmpty w j) refl
+  meets-same low high j s = step (isEmptySlot w j) refl
     where
-      step : (t : Bool) → isEmpty w j ≡ t → meets v low high j ≡ meets w low high j
+      step : (t : Bool) → isEmptySlot w j ≡ t → meets v low high j ≡ meets w low high j
       step true e = rw (s .offset, e)
       step false e = rw (s .offset, e, s .size (eqb-false (w (11 + j)) emptySlot e))
 
@@ -59,26 +59,26 @@ module _ (w v : ℕ → ℕ) where
       ap₂ either (shares-same low high k (λ j l. s j (omega arith))) (meets-same low high k (s k (omega arith)))
 
   -- that a grid shares no word with an earlier one
-  pub overlap-same : (k : ℕ) → Full w k → SameSlot w v k → ((j : ℕ) → j < k → SameSlot w v j) → overlapRule v k ≡ overlapRule w k
+  pub overlap-same : (k : ℕ) → FullSlot w k → SameSlot w v k → ((j : ℕ) → j < k → SameSlot w v j) → overlapRule v k ≡ overlapRule w k
   unfolding overlapRule
   overlap-same k full s before = rw (s .offset, s .size full, shares-same (w (11 + k)) (gridEnd w (w (11 + k))) k before)
 
   module _ (n next : ℕ) where
     -- a grid's own checks
-    pub own-same : (k : ℕ) → Full w k → SameSlot w v k → ownRules v n next k ≡ ownRules w n next k
+    pub own-same : (k : ℕ) → FullSlot w k → SameSlot w v k → ownRules v n next k ≡ ownRules w n next k
     unfolding ownRules headerRules sizeRules
     own-same k full s = rw (s .offset, s .size full, s .rows full, s .columns full)
 
     -- the checks of a slot
     pub slot-same : (k : ℕ) → SameSlot w v k → ((j : ℕ) → j < k → SameSlot w v j) → slotRules v n next k ≡ slotRules w n next k
-    slot-same k s before = step (isEmpty w k) refl
+    slot-same k s before = step (isEmptySlot w k) refl
       where
-        step : (t : Bool) → isEmpty w k ≡ t → slotRules v n next k ≡ slotRules w n next k
+        step : (t : Bool) → isEmptySlot w k ≡ t → slotRules v n next k ≡ slotRules w n next k
         step true e =
             let none : w (11 + k) ≡ emptySlot = eqb-true (w (11 + k)) emptySlot e in
             empty-slot v n next k (s .offset ∙ none) ∙ sym (empty-slot w n next k none)
         step false e =
-            let full : Full w k = eqb-false (w (11 + k)) emptySlot e in
+            let full : FullSlot w k = eqb-false (w (11 + k)) emptySlot e in
             full-slot v n next k (λ q. full (sym (s .offset) ∙ q))
             ∙ ap₂ (λ rs r. rs ++ r ∷ []) (own-same k full s) (overlap-same k full s before)
             ∙ sym (full-slot w n next k full)
@@ -95,7 +95,7 @@ module _ (w v : ℕ → ℕ) where
 -- slot
 pub wanted-same : (w v : ℕ → ℕ) (o : Order) (len number : ℕ) → v 10 ≡ w 10 → (1 ≤ number → number ≤ w 10 → SameAt w v (10 + number))
     → openWanted o len v number ≡ openWanted o len w number
-unfolding openWanted wantedRules layoutOf firstFault judge first
+unfolding openWanted wantedRules gridLayoutOf firstFault judge first
 wanted-same w v o len number count same = step (within 1 (w 10) number) (eqb (w (10 + number)) emptySlot) refl refl
   where
     same-at : within 1 (w 10) number ≡ true → SameAt w v (10 + number)
@@ -111,8 +111,8 @@ wanted-same w v o len number count same = step (within 1 (w 10) number) (eqb (w 
 
 module _ (w v : ℕ → ℕ) (s : SameWords w v) where
   -- the checks of a whole file
-  pub file-same : (len : ℕ) → fileRules len v ≡ fileRules len w
-  unfolding fileRules headRules
+  pub file-same : (len : ℕ) → gridFileRules len v ≡ gridFileRules len w
+  unfolding gridFileRules gridHeadRules
   file-same len = rw (s .count, s .next, slots-same w v (w 10) (nextFree w) (w 10) (s .slots))
 
   -- what it reads of a grid by its number
@@ -120,11 +120,11 @@ module _ (w v : ℕ → ℕ) (s : SameWords w v) where
   number-same number from to = subst (SameAt w v) (number-slot number from) (s .slots (number - 1) (omega (arith, from, to)))
 
   -- opening, whatever the length and the grid
-  pub open-same : (o : Order) (len number : ℕ) → openWords o len v number ≡ openWords o len w number
+  pub open-same : (o : Order) (len number : ℕ) → openGridWords o len v number ≡ openGridWords o len w number
   open-same o len number =
-      open-split o len v number (firstFault (fileRules len w)) (ap firstFault (file-same len))
-      ∙ ap (after (firstFault (fileRules len w))) (wanted-same w v o len number (s .count) (number-same number))
-      ∙ sym (open-split o len w number (firstFault (fileRules len w)) refl)
+      open-split o len v number (firstFault (gridFileRules len w)) (ap firstFault (file-same len))
+      ∙ ap (after (firstFault (gridFileRules len w))) (wanted-same w v o len number (s .count) (number-same number))
+      ∙ sym (open-split o len w number (firstFault (gridFileRules len w)) refl)
 
 -- two files of one length that agree on what opening reads of the first open alike
 pub grid-footprint : (o : Order) (f g : List ℕ) → length g ≡ length f → SameWords (wordAt o f) (wordAt o g)

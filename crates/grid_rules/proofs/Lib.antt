@@ -1,3 +1,10 @@
 pub mod Slots
 pub mod Acceptance
 pub mod Footprint
+pub mod Points
+pub mod Facts
+pub mod Worked
+pub mod Bounds
+pub mod Tables
+pub mod Sizes
+pub mod Places

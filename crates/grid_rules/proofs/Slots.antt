@@ -10,18 +10,18 @@ use native.Mathlib.Nat.{eq-or-lt-of-le, le-of-suc-le-suc}
 use native.Mathlib.Decide.{decLt, le-ind}
 use native.Mathlib.Omega.{arith}
 use borrow.Author.Tests.{leb-true, le-leb, ltb-true, lt-ltb, eqb-true, eq-eqb, eqb-false, ne-eqb}
-use Rattle.endian.proofs.Signs.{at-least, signed-at-least}
+use Rattle.endian_rules.proofs.Signs.{at-least, signed-at-least}
 use Rattle.lists.specs.Choices.{either}
 use Rattle.lists.proofs.Choices.{true-either}
-use Rattle.refusal.specs.Rules.{judge, first, firstFault, tabled, Hold}
-use Rattle.refusal.specs.Tests.{Exactly}
-use Rattle.refusal.specs.declared.Refusal.{Refusal}
-use Rattle.refusal.specs.declared.Verdict.{Verdict}
-use Rattle.refusal.specs.declared.Verdict.the-variants.{Pass, Fault}
-use Rattle.refusal.proofs.Exactness.{lt-exactly, eq-exactly, not-exactly, true-exactly, both-exactly, within-exactly}
-use Rattle.refusal.proofs.Tables.{first-pass, both-pass, pass-both, pass-hold, hold-pass, firstFault-append, joined, also}
-use Rattle.grid_rules.specs.Rules.{nextFree, emptySlot, isEmpty, gridEnd, headRules, meets, shares, headerRules, sizeRules, ownRules, overlapRule, slotRules, slotsRules, wantedRules}
-use Rattle.grid_rules.specs.Accepts.{Full, AcceptsHead, Room, AcceptsSlot}
+use Rattle.refusal_rules.specs.Rules.{judge, first, firstFault, tabled, Hold}
+use Rattle.refusal_rules.specs.Tests.{Exactly}
+use Rattle.refusal_rules.specs.declared.Refusal.{Refusal}
+use Rattle.refusal_rules.specs.declared.Verdict.{Verdict}
+use Rattle.refusal_rules.specs.declared.Verdict.the-variants.{Pass, Fault}
+use Rattle.refusal_rules.proofs.Exactness.{lt-exactly, eq-exactly, not-exactly, true-exactly, both-exactly, within-exactly}
+use Rattle.refusal_rules.proofs.Tables.{first-pass, both-pass, pass-both, pass-hold, hold-pass, firstFault-append, joined, also}
+use Rattle.grid_rules.specs.Rules.{nextFree, emptySlot, isEmptySlot, gridEnd, gridHeadRules, meets, shares, headerRules, sizeRules, ownRules, overlapRule, slotRules, slotsRules, wantedRules}
+use Rattle.grid_rules.specs.Accepts.{FullSlot, AcceptsGridHead, GridRoom, AcceptsGridSlot}
 
 -- what holds of every number below m and of m holds of every number below m + 1
 pub below-more : {P : ℕ → Type 0} (m : ℕ) → ((k : ℕ) → k < m → P k) → P m → (k : ℕ) → k < suc m → P k
@@ -34,8 +34,8 @@ number-slot number l = omega arith
 -- ---- the order of the checks
 
 -- Document 01's order, numbers and places, of the checks before the slots: length; n; room; the next free word.
-pub head-order : (len : ℕ) (w : ℕ → ℕ) → tabled (headRules len w) ≡ (1, 0) ∷ (3, 10) ∷ (5, 10) ∷ (5, 11 + w 10) ∷ (5, 11 + w 10) ∷ []
-unfolding tabled headRules
+pub head-order : (len : ℕ) (w : ℕ → ℕ) → tabled (gridHeadRules len w) ≡ (1, 0) ∷ (3, 10) ∷ (5, 10) ∷ (5, 11 + w 10) ∷ (5, 11 + w 10) ∷ []
+unfolding tabled gridHeadRules
 head-order len w = refl
 
 -- Of a grid: offset; rows; columns; size; end; overlap. Slot k is that of grid k + 1, and 11 + k is 10 + its number.
@@ -54,8 +54,8 @@ wanted-order w number = refl
 -- ---- the checks before the slots
 
 -- they hold exactly where the head of the file is accepted
-pub head-exactly : (len : ℕ) (w : ℕ → ℕ) → Hold (headRules len w) ↔ AcceptsHead len w
-unfolding headRules
+pub head-exactly : (len : ℕ) (w : ℕ → ℕ) → Hold (gridHeadRules len w) ↔ AcceptsGridHead len w
+unfolding gridHeadRules
 head-exactly len w = (
   λ h.
       record {
@@ -75,7 +75,7 @@ head-exactly len w = (
 )
 
 -- what an accepted head gives
-pub accepted-room : (len : ℕ) (w : ℕ → ℕ) → AcceptsHead len w → Room len (w 10) (nextFree w)
+pub accepted-room : (len : ℕ) (w : ℕ → ℕ) → AcceptsGridHead len w → GridRoom len (w 10) (nextFree w)
 accepted-room len w a =
     let next : (12 + w 10 ≤ nextFree w) × (nextFree w < 2 ^ 31) = signed-at-least (12 + w 10) (nextFree w) .0 (a .next-from) in
     record {
@@ -87,14 +87,14 @@ accepted-room len w a =
     }
 
 -- where the checks pass
-pub head-room : (len : ℕ) (w : ℕ → ℕ) → firstFault (headRules len w) ≡ Pass → Room len (w 10) (nextFree w)
-head-room len w e = accepted-room len w (head-exactly len w .0 (pass-hold (headRules len w) e))
+pub head-room : (len : ℕ) (w : ℕ → ℕ) → firstFault (gridHeadRules len w) ≡ Pass → GridRoom len (w 10) (nextFree w)
+head-room len w e = accepted-room len w (head-exactly len w .0 (pass-hold (gridHeadRules len w) e))
 
 -- ---- words that two grids share
 
 -- slot j has no word from `low` up to `high`: it is empty, or its grid ends before or begins after
 abbrev pub Misses : (ℕ → ℕ) → ℕ → ℕ → ℕ → Type 0
-Misses w low high j = Full w j → (gridEnd w (w (11 + j)) ≤ low) ⊎ (high ≤ w (11 + j))
+Misses w low high j = FullSlot w j → (gridEnd w (w (11 + j)) ≤ low) ⊎ (high ≤ w (11 + j))
 
 -- two tests that both fail
 neither-exactly : (a b : Bool) {P Q : Type 0} → Exactly (not a) P → Exactly (not b) Q → Exactly (not (either a b)) (P × Q)
@@ -114,7 +114,7 @@ one-fails a b c d h = step (decLt a b)
 
 module _ (w : ℕ → ℕ) (low high : ℕ) where
   -- what the test of one slot says
-  pub meets-exactly : (j : ℕ) → Exactly (meets w low high j) (Full w j × ((low < gridEnd w (w (11 + j))) × (w (11 + j) < high)))
+  pub meets-exactly : (j : ℕ) → Exactly (meets w low high j) (FullSlot w j × ((low < gridEnd w (w (11 + j))) × (w (11 + j) < high)))
   unfolding meets
   meets-exactly j =
       both-exactly (not-exactly (eq-exactly (w (11 + j)) emptySlot))
@@ -188,12 +188,12 @@ module _ (w : ℕ → ℕ) (n next : ℕ) where
   empty-slot k e = rw (eq-eqb (w (11 + k)) emptySlot e)
 
   -- a slot with a grid has those of the grid, and the one of overlap
-  pub full-slot : (k : ℕ) → Full w k → slotRules w n next k ≡ ownRules w n next k ++ overlapRule w k ∷ []
+  pub full-slot : (k : ℕ) → FullSlot w k → slotRules w n next k ≡ ownRules w n next k ++ overlapRule w k ∷ []
   unfolding slotRules
   full-slot k h = rw (ne-eqb (w (11 + k)) emptySlot h)
 
   -- what they say, where its own checks come to a verdict
-  pub full-verdict : (k : ℕ) → Full w k → (v : Verdict) → firstFault (ownRules w n next k) ≡ v
+  pub full-verdict : (k : ℕ) → FullSlot w k → (v : Verdict) → firstFault (ownRules w n next k) ≡ v
       → firstFault (slotRules w n next k) ≡ first v (judge (overlapRule w k))
   unfolding firstFault
   full-verdict k full v e =
@@ -212,7 +212,7 @@ module _ (w : ℕ → ℕ) (n next : ℕ) where
   own-end k e = leb-true (gridEnd w (w (11 + k))) next (pass-hold (ownRules w n next k) e .1 .1 .1 .1 .1 .1 .0)
 
   -- the checks of a slot with a grid hold exactly where the grid is accepted
-  full-exactly : (k : ℕ) → Hold (ownRules w n next k ++ overlapRule w k ∷ []) ↔ AcceptsSlot w n next k
+  full-exactly : (k : ℕ) → Hold (ownRules w n next k ++ overlapRule w k ∷ []) ↔ AcceptsGridSlot w n next k
   unfolding ownRules headerRules sizeRules overlapRule
   full-exactly k = (
     λ h.
@@ -239,20 +239,20 @@ module _ (w : ℕ → ℕ) (n next : ℕ) where
   )
 
   -- the checks of a slot hold exactly where its grid, if it has one, is accepted
-  pub slot-exactly : (k : ℕ) → (firstFault (slotRules w n next k) ≡ Pass) ↔ (Full w k → AcceptsSlot w n next k)
+  pub slot-exactly : (k : ℕ) → (firstFault (slotRules w n next k) ≡ Pass) ↔ (FullSlot w k → AcceptsGridSlot w n next k)
   slot-exactly k = (
     λ e full. full-exactly k .0 (pass-hold (ownRules w n next k ++ overlapRule w k ∷ []) (ap firstFault (sym (full-slot k full)) ∙ e)),
-    λ h. step (isEmpty w k) refl h,
+    λ h. step (isEmptySlot w k) refl h,
   )
     where
-      step : (t : Bool) → isEmpty w k ≡ t → (Full w k → AcceptsSlot w n next k) → firstFault (slotRules w n next k) ≡ Pass
+      step : (t : Bool) → isEmptySlot w k ≡ t → (FullSlot w k → AcceptsGridSlot w n next k) → firstFault (slotRules w n next k) ≡ Pass
       step true e h = ap firstFault (empty-slot k (eqb-true (w (11 + k)) emptySlot e)) ∙ hold-pass [] tt
       step false e h =
-          let full : Full w k = eqb-false (w (11 + k)) emptySlot e in
+          let full : FullSlot w k = eqb-false (w (11 + k)) emptySlot e in
           ap firstFault (full-slot k full) ∙ hold-pass (ownRules w n next k ++ overlapRule w k ∷ []) (full-exactly k .1 (h full))
 
   -- those of the first m slots, where each grid is
-  pub slots-exactly : (m : ℕ) → (firstFault (slotsRules w n next m) ≡ Pass) ↔ ((k : ℕ) → k < m → Full w k → AcceptsSlot w n next k)
+  pub slots-exactly : (m : ℕ) → (firstFault (slotsRules w n next m) ≡ Pass) ↔ ((k : ℕ) → k < m → FullSlot w k → AcceptsGridSlot w n next k)
   slots-exactly m = (
     λ e k l. slot-exactly k .0 (each-passes m .0 e k l),
     λ h. each-passes m .1 (λ k l. slot-exactly k .1 (h k l)),

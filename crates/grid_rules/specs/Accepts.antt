@@ -3,16 +3,16 @@
 use mathlib.Core.Path.{_≡_}
 use mathlib.Core.Logic.{_⊎_}
 use Prim.Native.Nat.{ℕ, _+_, _*_, _/_, _≤_, _<_}
-use Rattle.endian.specs.Words.{AtLeast}
+use Rattle.endian_rules.specs.Words.{AtLeast}
 use Rattle.grid_rules.specs.Rules.{nextFree, emptySlot, gridEnd}
 
 -- slot k has a grid
-abbrev pub Full : (ℕ → ℕ) → ℕ → Type 0
-Full w k = ¬ (w (11 + k) ≡ emptySlot)
+abbrev pub FullSlot : (ℕ → ℕ) → ℕ → Type 0
+FullSlot w k = ¬ (w (11 + k) ≡ emptySlot)
 
 -- the head of a file, one field a rule. A word with an upper limit below 2 ^ 31 is the signed word; the next free word has no upper limit of its
 -- own, and is compared as a signed word
-pub record AcceptsHead (len : ℕ) (w : ℕ → ℕ) : Type 0 where
+pub record AcceptsGridHead (len : ℕ) (w : ℕ → ℕ) : Type 0 where
   pub long : 44 ≤ len
   pub grids : (1 ≤ w 10) × (w 10 ≤ 1024)
   pub room : 12 + w 10 ≤ len / 4
@@ -20,7 +20,7 @@ pub record AcceptsHead (len : ℕ) (w : ℕ → ℕ) : Type 0 where
   pub next-to : nextFree w ≤ len / 4
 
 -- what the checks before the slots give of a file of `len` bytes with n grids and the next free word `next`
-pub record Room (len n next : ℕ) : Type 0 where
+pub record GridRoom (len n next : ℕ) : Type 0 where
   pub some : 1 ≤ n
   pub few : n ≤ 1024
   pub after : 12 + n ≤ next
@@ -28,7 +28,7 @@ pub record Room (len n next : ℕ) : Type 0 where
   pub small : next < 2147483648
 
 -- a slot that is not empty: the grid at its offset, one field a rule
-pub record AcceptsSlot (w : ℕ → ℕ) (n next k : ℕ) : Type 0 where
+pub record AcceptsGridSlot (w : ℕ → ℕ) (n next k : ℕ) : Type 0 where
   pub offset : AtLeast (12 + n) (w (11 + k))
   pub header : w (11 + k) + 64 ≤ next
   pub rows : (1 ≤ w (w (11 + k) + 1)) × (w (w (11 + k) + 1) ≤ 65535)
@@ -37,16 +37,16 @@ pub record AcceptsSlot (w : ℕ → ℕ) (n next k : ℕ) : Type 0 where
   pub size : w (w (11 + k)) ≡ w (w (11 + k) + 1) * w (w (11 + k) + 2)
   pub end : gridEnd w (w (11 + k)) ≤ next
   -- of this grid and an earlier one, one ends before the other begins
-  pub apart : (j : ℕ) → j < k → Full w j → (gridEnd w (w (11 + j)) ≤ w (11 + k)) ⊎ (gridEnd w (w (11 + k)) ≤ w (11 + j))
+  pub apart : (j : ℕ) → j < k → FullSlot w j → (gridEnd w (w (11 + j)) ≤ w (11 + k)) ⊎ (gridEnd w (w (11 + k)) ≤ w (11 + j))
 
 -- a whole file
-pub record AcceptsFile (len : ℕ) (w : ℕ → ℕ) : Type 0 where
-  pub head : AcceptsHead len w
-  pub slots : (k : ℕ) → k < w 10 → Full w k → AcceptsSlot w (w 10) (nextFree w) k
+pub record AcceptsGridFile (len : ℕ) (w : ℕ → ℕ) : Type 0 where
+  pub head : AcceptsGridHead len w
+  pub slots : (k : ℕ) → k < w 10 → FullSlot w k → AcceptsGridSlot w (w 10) (nextFree w) k
 
 -- a whole file, and the wanted grid
-pub record Accepts (len : ℕ) (w : ℕ → ℕ) (number : ℕ) : Type 0 where
-  pub file : AcceptsFile len w
+pub record AcceptsGrid (len : ℕ) (w : ℕ → ℕ) (number : ℕ) : Type 0 where
+  pub file : AcceptsGridFile len w
   pub number-from : 1 ≤ number
   pub number-to : number ≤ w 10
   pub full : ¬ (w (10 + number) ≡ emptySlot)

@@ -4,12 +4,12 @@ use mathlib.Core.Bool.{Bool}
 use mathlib.Core.List.{List, [], _∷_, _++_}
 use Prim.Native.Nat.{ℕ, _+_}
 use lib.ListN.{length}
-use Rattle.endian.specs.Words.{wordAt, orderNumber}
-use Rattle.endian.specs.declared.Order.{Order}
-use Rattle.refusal.specs.Rules.{firstFault}
-use Rattle.refusal.specs.Answers.{Answer, gives, refuses, answered}
-use Rattle.refusal.specs.Tests.{sameNumbers}
-use Rattle.grid_rules.specs.Rules.{fileRules, wantedRules}
+use Rattle.endian_rules.specs.Words.{wordAt, orderNumber}
+use Rattle.endian_rules.specs.declared.Order.{Order}
+use Rattle.refusal_rules.specs.Rules.{firstFault}
+use Rattle.refusal_rules.specs.Answers.{Answer, gives, refuses, answered}
+use Rattle.refusal_rules.specs.Tests.{sameNumbers}
+use Rattle.grid_rules.specs.Rules.{gridFileRules, wantedRules}
 use Rattle.grid_rules.specs.declared.GridLayout.{GridLayout}
 use Rattle.grid_rules.specs.declared.GridOpening.{GridOpening}
 use Rattle.grid_rules.specs.declared.GridOpening.the-variants.{Opened, Refused}
@@ -20,8 +20,8 @@ gridSays (Opened l) = gives l
 gridSays (Refused r) = refuses (r .number) (r .place)
 
 -- the layout of a grid that the words of a file of `len` bytes give: "grid number, offset, rows, columns"
-unfoldable pub layoutOf : Order → ℕ → (ℕ → ℕ) → ℕ → GridLayout
-layoutOf o len w number =
+unfoldable pub gridLayoutOf : Order → ℕ → (ℕ → ℕ) → ℕ → GridLayout
+gridLayoutOf o len w number =
     record {
       order = o;
       length = len;
@@ -33,15 +33,15 @@ layoutOf o len w number =
 
 -- opening a grid, where the file's own checks have passed
 unfoldable pub openWanted : Order → ℕ → (ℕ → ℕ) → ℕ → Answer GridLayout
-openWanted o len w number = answered (firstFault (wantedRules w number)) (layoutOf o len w number)
+openWanted o len w number = answered (firstFault (wantedRules w number)) (gridLayoutOf o len w number)
 
 -- opening, of a length and the words
-unfoldable pub openWords : Order → ℕ → (ℕ → ℕ) → ℕ → Answer GridLayout
-openWords o len w number = answered (firstFault (fileRules len w ++ wantedRules w number)) (layoutOf o len w number)
+unfoldable pub openGridWords : Order → ℕ → (ℕ → ℕ) → ℕ → Answer GridLayout
+openGridWords o len w number = answered (firstFault (gridFileRules len w ++ wantedRules w number)) (gridLayoutOf o len w number)
 
 -- opening a grid of a file in a byte order
 unfoldable pub openGrid : Order → List ℕ → ℕ → Answer GridLayout
-openGrid o f number = openWords o (length f) (wordAt o f) number
+openGrid o f number = openGridWords o (length f) (wordAt o f) number
 
 -- a layout's fields as numbers
 abbrev pub gridNumbers : GridLayout → List ℕ

@@ -9,10 +9,10 @@ use mathlib.Core.Bool.{Bool, false, not}
 use mathlib.Core.List.{List, [], _∷_, _++_}
 use Prim.Native.Nat.{ℕ, zero, suc, _+_, _*_, _/_}
 use lib.Dec.{leb, ltb, eqb}
-use Rattle.endian.specs.Words.{atLeast}
+use Rattle.endian_rules.specs.Words.{atLeast}
 use Rattle.lists.specs.Choices.{pick, both, either}
-use Rattle.refusal.specs.Rules.{Rule, rule}
-use Rattle.refusal.specs.Tests.{within}
+use Rattle.refusal_rules.specs.Rules.{Rule, rule}
+use Rattle.refusal_rules.specs.Tests.{within}
 
 -- the next free word
 abbrev pub nextFree : (ℕ → ℕ) → ℕ
@@ -23,8 +23,8 @@ abbrev pub emptySlot : ℕ
 emptySlot = 4294967295
 
 -- whether slot k is empty
-abbrev pub isEmpty : (ℕ → ℕ) → ℕ → Bool
-isEmpty w k = eqb (w (11 + k)) emptySlot
+abbrev pub isEmptySlot : (ℕ → ℕ) → ℕ → Bool
+isEmptySlot w k = eqb (w (11 + k)) emptySlot
 
 -- the word after a grid that begins at an offset: its header of 64 words, of which the first is the size, and its data
 abbrev pub gridEnd : (ℕ → ℕ) → ℕ → ℕ
@@ -32,8 +32,8 @@ gridEnd w offset = offset + 64 + w offset
 
 -- the checks before the slots, of a file of `len` bytes: its length; n; room for 12 + n words; the next free word from 12 + n up to the file's whole
 -- words
-unfoldable pub headRules : ℕ → (ℕ → ℕ) → List Rule
-headRules len w =
+unfoldable pub gridHeadRules : ℕ → (ℕ → ℕ) → List Rule
+gridHeadRules len w =
     rule (leb 44 len) 1 0
     ∷ rule (within 1 1024 (w 10)) 3 10
     ∷ rule (leb (12 + w 10) (len / 4)) 5 10
@@ -43,7 +43,7 @@ headRules len w =
 
 -- whether the grid of slot j has a word from `low` up to, but not with, `high`
 unfoldable pub meets : (ℕ → ℕ) → ℕ → ℕ → ℕ → Bool
-meets w low high j = both (not (isEmpty w j)) (both (ltb low (gridEnd w (w (11 + j)))) (ltb (w (11 + j)) high))
+meets w low high j = both (not (isEmptySlot w j)) (both (ltb low (gridEnd w (w (11 + j)))) (ltb (w (11 + j)) high))
 
 -- whether one of the first k slots has
 unfoldable pub shares : (ℕ → ℕ) → ℕ → ℕ → ℕ → Bool
@@ -79,7 +79,7 @@ overlapRule w k = rule (not (shares w (w (11 + k)) (gridEnd w (w (11 + k))) k)) 
 
 -- the checks of slot k, "for each slot that isn't empty"
 unfoldable pub slotRules : (ℕ → ℕ) → ℕ → ℕ → ℕ → List Rule
-slotRules w n next k = pick (isEmpty w k) [] (ownRules w n next k ++ overlapRule w k ∷ [])
+slotRules w n next k = pick (isEmptySlot w k) [] (ownRules w n next k ++ overlapRule w k ∷ [])
 
 -- the checks of the first k slots, each "complete before the next slot"
 unfoldable pub slotsRules : (ℕ → ℕ) → ℕ → ℕ → ℕ → List Rule
@@ -87,8 +87,8 @@ slotsRules w n next zero = []
 slotsRules w n next (suc k) = slotsRules w n next k ++ slotRules w n next k
 
 -- the checks of a whole file of `len` bytes
-unfoldable pub fileRules : ℕ → (ℕ → ℕ) → List Rule
-fileRules len w = headRules len w ++ slotsRules w (w 10) (nextFree w) (w 10)
+unfoldable pub gridFileRules : ℕ → (ℕ → ℕ) → List Rule
+gridFileRules len w = gridHeadRules len w ++ slotsRules w (w 10) (nextFree w) (w 10)
 
 -- "Last, the wanted grid number, then whether its slot is empty"
 unfoldable pub wantedRules : (ℕ → ℕ) → ℕ → List Rule

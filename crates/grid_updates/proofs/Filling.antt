@@ -1,4 +1,4 @@
--- A call of `extent_tables::fill`, by a function that holds the table and the file as `&mut`.
+-- A call of `extent_table_steps::fill`, by a function that holds the table and the file as `&mut`.
 --     Filling          the contract of `fill`
 --     fills            the table t and the file f are held; the call runs, and then both are held again, the table filled
 -- Assumes nothing.
@@ -23,14 +23,14 @@ use denote.Plain.{Nothing}
 use denote.Builtin.{u8, usize}
 use denote.Ref.{RefT}
 use denote.Triple.Statement.{Contract, Triple}
-use Rattle.endian.specs.declared.Order.{Order}
-use Rattle.endian.proofs.Order as O
-use Rattle.extents.specs.Steps.{Accepted, runsOver}
-use Rattle.extents.specs.declared.Extent.{Extent}
-use Rattle.extents.proofs.Extent as X
-use Rattle.extent_tables.proofs.Extents.{order-value, an-order}
-use Rattle.extent_tables.proofs.fill as fill
-use Rattle.extent_tables.proofs.fill.Symbol.{name as #fill}
+use Rattle.endian_rules.specs.declared.Order.{Order}
+use Rattle.endian_rules.proofs.Order as O
+use Rattle.extent_rules.specs.Steps.{GridAccepted, runsOver}
+use Rattle.extent_rules.specs.declared.Extent.{Extent}
+use Rattle.extent_rules.proofs.Extent as X
+use Rattle.extent_table_steps.proofs.Extents.{order-value, an-order}
+use Rattle.extent_table_steps.proofs.fill as fill
+use Rattle.extent_table_steps.proofs.fill.Symbol.{name as #fill}
 use Rattle.walks.proofs.Calls.{Yields}
 use Rattle.walks.proofs.Contracts.{Contracted}
 use Rattle.walks.proofs.Held.{Holds}
@@ -54,7 +54,7 @@ module _ (ℓ ℓ′ : Lifetime) (κ κ′ : Lft) (q q′ : Share) (table : RefT
       (mem : Memory → SProp 𝓤) (runs : Routine → Fun 𝓤) (o : Order) (n : ℕ) where
     -- n places are filled, and the file is one from which they can be
     pub fills : Triple 𝓤 (C #fill) (Filling 𝓤 H A mem runs) → Is O.the-row o (order-value o ∷ []) → Is usize n (vint w64 n ∷ [])
-        → (n ≤ length t) × (0 < n → Accepted o f)
+        → (n ≤ length t) × (0 < n → GridAccepted o f)
         → ent 𝓤 (⋆ 𝓤 H A (‵ (Table t) ∷ ‵ (File f) ∷ []))
         (H .⇛ (C #fill (tv ∷ fv ∷ order-value o ∷ vint w64 n ∷ []) (Yields 𝓤 H Nothing
         (λ _. ex 𝓤 (λ (zs : List Extent). guard 𝓤 (zs ≡ runsOver o f n t) (sep 𝓤 (sem 𝓤 H A (Table zs)) (sem 𝓤 H A (File f))))))))

@@ -1,17 +1,17 @@
 // Deleting a grid and adding one, with the room of deleted grids used again. Both calls take the file and its byte order, and no layout; after either, a lent
 // table holds the free stretches of the file, the longest runs of words that no grid has, in address order.
-use endian::Order;
-use extent_tables::fill;
-use extent_tables::search;
-use extents::Extent;
-use grid_changes::AddAnswer;
-use grid_writes::add_at;
-use grid_writes::delete_in;
-use grid_writes::plan_add;
-use refusal::SizeAnswer;
+use endian_rules::Order;
+use extent_rules::Extent;
+use extent_table_steps::fill;
+use extent_table_steps::search;
+use grid_update_rules::AddAnswer;
+use grid_update_steps::add_at;
+use grid_update_steps::delete_in;
+use grid_update_steps::plan_add;
+use refusal_rules::SizeAnswer;
 ghost use mathlib.Core.Path.{_≡_};
-ghost use Rattle.refusal.specs.Answers.{sizeSays};
-ghost use Rattle.grid_changes.specs.Changes.{addSays, deleteGrid, addGrid};
+ghost use Rattle.refusal_rules.specs.Answers.{sizeSays};
+ghost use Rattle.grid_update_rules.specs.Changes.{deleteGrid, addSays, addGrid};
 
 // Deletes the grid of a number, counted from 1: its slot becomes empty, and the next free word the end of the highest grid that is left. No other byte changes.
 // Answers how many free stretches the file has now, which stand in the first places of the table; places past them stay.

@@ -1,36 +1,23 @@
 // A layout of any kind: opening a file by its kind, and whether a layout is stale.
-use area::AreaLayout;
-use area::AreaOpening;
 use area::same_area;
-use endian::Order;
+use area_rules::AreaLayout;
+use area_rules::AreaOpening;
+use endian_rules::Order;
+use grid::same_grid;
 use grid_rules::GridLayout;
 use grid_rules::GridOpening;
-use grid_rules::same_grid;
-use md::MdLayout;
-use md::MdOpening;
+use layout_rules::Layout;
+use layout_rules::Opening;
 use md::same_md;
-use refusal::Refusal;
+use md_rules::MdLayout;
+use md_rules::MdOpening;
 ghost use mathlib.Core.Path.{_≡_};
-ghost use Rattle.refusal.specs.Answers.{gives, mapped};
-ghost use Rattle.refusal.specs.Tests.{Exactly};
-ghost use Rattle.area.specs.Opening.{areaSays, openArea};
-ghost use Rattle.grid_rules.specs.Opening.{gridSays, openGrid};
-ghost use Rattle.md.specs.Opening.{mdSays, openMd};
-ghost use Rattle.layout.specs.Layouts.{openingSays, orderOf, reopened, givesThat};
-
-// What opening a file finds, of any of the three kinds. "Layout" is document 01's term. A caller can make one up: nothing is known of its fields
-// until it is found to be the one that opening the file gives.
-pub enum Layout {
-    Area(AreaLayout),
-    Grid(GridLayout),
-    Md(MdLayout),
-}
-
-// What opening a file answers: its layout, or a refusal.
-pub enum Opening {
-    Opened(Layout),
-    Refused(Refusal),
-}
+ghost use Rattle.refusal_rules.specs.Answers.{mapped, gives};
+ghost use Rattle.refusal_rules.specs.Tests.{Exactly};
+ghost use Rattle.area_rules.specs.Opening.{openArea, areaSays};
+ghost use Rattle.grid_rules.specs.Opening.{openGrid, gridSays};
+ghost use Rattle.md_rules.specs.Opening.{openMd, mdSays};
+ghost use Rattle.layout_rules.specs.Layouts.{openingSays, layoutOrder, givesThat, reopened};
 
 // Opens an AREA file, which finds its byte order by itself. Refused as `area::open`.
 pub fn open_area(file: &[u8]) -> Opening
@@ -64,7 +51,7 @@ pub fn open_md(file: &[u8], order: Order) -> Opening
 
 // The byte order of a layout.
 pub fn order_of(layout: Layout) -> Order
-    ensures { λ r. ⌜ r ≡ orderOf layout ⌝ }
+    ensures { λ r. ⌜ r ≡ layoutOrder layout ⌝ }
 {
     match layout {
         Layout::Area(l) => l.order,

@@ -1,14 +1,14 @@
 // What the listing program does: an AREA file is read from standard input, and its listing is written to standard output.
-use area::AreaLayout;
-use area::AreaOpening;
-use area::Block;
-use endian::Order;
+use area_rules::AreaLayout;
+use area_rules::AreaOpening;
+use area_rules::Block;
+use endian_rules::Order;
 use libc::STDIN_FILENO;
 use libc::STDOUT_FILENO;
-use listing::BlockList;
-use listing::Entry;
-use listing::Listing;
 use listing::list_area;
+use listing_rules::BlockList;
+use listing_rules::Entry;
+use listing_rules::Listing;
 ghost use Prim.Native.Nat.{_≤_};
 
 // Writes text to standard output. A write that fails is left at that: the program has no exit status.

@@ -1,52 +1,32 @@
 // MD files, point records: opening a file, and comparing layouts.
-use endian::Order;
 use endian::at_least;
 use endian::order_number;
-use endian::read_word;
-use refusal::COUNT_OUT_OF_BOUNDS;
-use refusal::MISPLACED;
-use refusal::RULE_BROKEN;
-use refusal::Refusal;
-use refusal::SHORT_FILE;
-use refusal::Verdict;
+use endian_rules::Order;
+use endian_steps::read_word;
+use md_rules::MdLayout;
+use md_rules::MdOpening;
 use refusal::and;
 use refusal::check;
 use refusal::equal_and;
 use refusal::within;
+use refusal_rules::COUNT_OUT_OF_BOUNDS;
+use refusal_rules::MISPLACED;
+use refusal_rules::RULE_BROKEN;
+use refusal_rules::Refusal;
+use refusal_rules::SHORT_FILE;
+use refusal_rules::Verdict;
 ghost use mathlib.Core.Path.{_≡_};
 ghost use Prim.Native.Nat.{_+_, _*_, _≤_};
 ghost use lib.ListN.{length};
-ghost use Rattle.endian.specs.Words.{wordAt};
-ghost use Rattle.refusal.specs.Rules.{judge, first, firstFault};
-ghost use Rattle.md.specs.Rules.{count, equal, countRules, sumRules, fixedRules, endRules, mdRules};
-ghost use Rattle.md.specs.Opening.{mdSays, layoutOf, openMd, sameMd};
-
-// What opening an MD file finds: the byte order in which it was opened and the file's length in bytes; and as raw words the rows (word 3),
-// columns (word 4) and keys (word 5), of which so many are row-header keys (word 6), column-header keys (word 7) and data keys
-// (word 8), and the words at which the column headers (word 28) and the data (word 29) start. "Layout" is document 01's term.
-pub struct MdLayout {
-    pub order: Order,
-    pub length: usize,
-    pub rows: u32,
-    pub columns: u32,
-    pub keys: u32,
-    pub row_keys: u32,
-    pub column_keys: u32,
-    pub data_keys: u32,
-    pub column_start: u32,
-    pub data_start: u32,
-}
-
-// What opening an MD file answers: its layout, or a refusal.
-pub enum MdOpening {
-    Opened(MdLayout),
-    Refused(Refusal),
-}
+ghost use Rattle.endian_rules.specs.Words.{wordAt};
+ghost use Rattle.refusal_rules.specs.Rules.{judge, first, firstFault};
+ghost use Rattle.md_rules.specs.Rules.{mdCount, mdEqual, mdCountRules, mdSumRules, mdFixedRules, mdEndRules, mdRules};
+ghost use Rattle.md_rules.specs.Opening.{mdLayoutOf, mdSays, openMd, sameMd};
 
 // The rule of a count, after a verdict: word k is from `low` to `high`.
 fn count(verdict: Verdict, file: &[u8], order: Order, k: usize, low: u32, high: u32) -> Verdict
     requires { ⌜ 4 * k + 4 ≤ length (now file) ⌝ }
-    ensures { λ r. ⌜ r ≡ first verdict (judge (count (wordAt order (now (file .entry))) k low high)) ⌝ }
+    ensures { λ r. ⌜ r ≡ first verdict (judge (mdCount (wordAt order (now (file .entry))) k low high)) ⌝ }
 {
     let holds = within(low, high, read_word(order, file, k));
     check(verdict, holds, COUNT_OUT_OF_BOUNDS, k)
@@ -55,7 +35,7 @@ fn count(verdict: Verdict, file: &[u8], order: Order, k: usize, low: u32, high: 
 // The rule of a word that must be n, after a verdict.
 fn equal(verdict: Verdict, file: &[u8], order: Order, k: usize, n: usize) -> Verdict
     requires { ⌜ 4 * k + 4 ≤ length (now file) ⌝ }
-    ensures { λ r. ⌜ r ≡ first verdict (judge (equal (wordAt order (now (file .entry))) k n)) ⌝ }
+    ensures { λ r. ⌜ r ≡ first verdict (judge (mdEqual (wordAt order (now (file .entry))) k n)) ⌝ }
 {
     let holds = read_word(order, file, k) as usize == n;
     check(verdict, holds, RULE_BROKEN, k)
@@ -64,7 +44,7 @@ fn equal(verdict: Verdict, file: &[u8], order: Order, k: usize, n: usize) -> Ver
 // The rules of the counts. The verdict up to the rule of a word is named after it.
 fn count_verdict(file: &[u8], order: Order) -> Verdict
     requires { ⌜ 16384 ≤ length (now file) ⌝ }
-    ensures { λ r. ⌜ r ≡ firstFault (countRules (wordAt order (now (file .entry)))) ⌝ }
+    ensures { λ r. ⌜ r ≡ firstFault (mdCountRules (wordAt order (now (file .entry)))) ⌝ }
 {
     let to_3 = count(Verdict::Pass, file, order, 3, 1, 65535);
     let to_4 = count(to_3, file, order, 4, 1, 1600000);
@@ -76,8 +56,8 @@ fn count_verdict(file: &[u8], order: Order) -> Verdict
 
 // The rules of the words that follow from the counts, where the counts are within their bounds.
 fn sum_verdict(file: &[u8], order: Order) -> Verdict
-    requires { ⌜ (16384 ≤ length (now file)) × (firstFault (countRules (wordAt order (now file))) ≡ Verdict.Pass) ⌝ }
-    ensures { λ r. ⌜ r ≡ firstFault (sumRules (wordAt order (now (file .entry)))) ⌝ }
+    requires { ⌜ (16384 ≤ length (now file)) × (firstFault (mdCountRules (wordAt order (now file))) ≡ Verdict.Pass) ⌝ }
+    ensures { λ r. ⌜ r ≡ firstFault (mdSumRules (wordAt order (now (file .entry)))) ⌝ }
 {
     let rows = read_word(order, file, 3) as usize;
     let columns = read_word(order, file, 4) as usize;
@@ -97,7 +77,7 @@ fn sum_verdict(file: &[u8], order: Order) -> Verdict
 // The rules of the words that are the same in every file, after a verdict.
 fn fixed_verdict(verdict: Verdict, file: &[u8], order: Order) -> Verdict
     requires { ⌜ 16384 ≤ length (now file) ⌝ }
-    ensures { λ r. ⌜ r ≡ first verdict (firstFault (fixedRules (wordAt order (now (file .entry))))) ⌝ }
+    ensures { λ r. ⌜ r ≡ first verdict (firstFault (mdFixedRules (wordAt order (now (file .entry))))) ⌝ }
 {
     let to_31 = equal(verdict, file, order, 31, 64);
     let to_32 = equal(to_31, file, order, 32, 464);
@@ -107,8 +87,8 @@ fn fixed_verdict(verdict: Verdict, file: &[u8], order: Order) -> Verdict
 
 // The rules of word 30, after a verdict, where the counts are within their bounds.
 fn end_verdict(verdict: Verdict, file: &[u8], order: Order) -> Verdict
-    requires { ⌜ (16384 ≤ length (now file)) × (firstFault (countRules (wordAt order (now file))) ≡ Verdict.Pass) ⌝ }
-    ensures { λ r. ⌜ r ≡ first verdict (firstFault (endRules (length (now (file .entry))) (wordAt order (now (file .entry))))) ⌝ }
+    requires { ⌜ (16384 ≤ length (now file)) × (firstFault (mdCountRules (wordAt order (now file))) ≡ Verdict.Pass) ⌝ }
+    ensures { λ r. ⌜ r ≡ first verdict (firstFault (mdEndRules (length (now (file .entry))) (wordAt order (now (file .entry))))) ⌝ }
 {
     let rows = read_word(order, file, 3) as usize;
     let columns = read_word(order, file, 4) as usize;
@@ -122,7 +102,7 @@ fn end_verdict(verdict: Verdict, file: &[u8], order: Order) -> Verdict
 }
 
 // What all rules say of a file that is long enough.
-fn word_verdict(file: &[u8], order: Order) -> Verdict
+fn md_verdict(file: &[u8], order: Order) -> Verdict
     requires { ⌜ 16384 ≤ length (now file) ⌝ }
     ensures { λ r. ⌜ r ≡ firstFault (mdRules (length (now (file .entry))) (wordAt order (now (file .entry)))) ⌝ }
 {
@@ -139,7 +119,7 @@ fn word_verdict(file: &[u8], order: Order) -> Verdict
 // The layout that the words of a file give.
 fn layout(file: &[u8], order: Order) -> MdLayout
     requires { ⌜ 16384 ≤ length (now file) ⌝ }
-    ensures { λ r. ⌜ r ≡ layoutOf order (length (now (file .entry))) (wordAt order (now (file .entry))) ⌝ }
+    ensures { λ r. ⌜ r ≡ mdLayoutOf order (length (now (file .entry))) (wordAt order (now (file .entry))) ⌝ }
 {
     MdLayout {
         order: order,
@@ -166,7 +146,7 @@ pub fn open(file: &[u8], order: Order) -> MdOpening
             place: 0,
         });
     }
-    match word_verdict(file, order) {
+    match md_verdict(file, order) {
         Verdict::Fault(refusal) => MdOpening::Refused(refusal),
         Verdict::Pass => MdOpening::Opened(layout(file, order)),
     }

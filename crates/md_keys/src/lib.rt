@@ -1,18 +1,18 @@
 // The keys of an MD file: the position of a key by its name.
-use found::md_of;
-use layout::Layout;
-use md::MdLayout;
-use md::MdOpening;
-use refusal::NO_SUCH;
-use refusal::NumberAnswer;
-use refusal::Refusal;
+use fresh_layout::md_of;
+use layout_rules::Layout;
+use md_rules::MdLayout;
+use md_rules::MdOpening;
 use refusal::and;
+use refusal_rules::NO_SUCH;
+use refusal_rules::NumberAnswer;
+use refusal_rules::Refusal;
 ghost use mathlib.Core.Path.{_≡_};
 ghost use Prim.Native.Nat.{_≤_};
 ghost use lib.ListN.{length};
-ghost use Rattle.refusal.specs.Answers.{numberSays};
-ghost use Rattle.md.specs.Accepts.{MdOf};
-ghost use Rattle.md_keys.specs.Keys.{isNamed, keyIn, keyOf};
+ghost use Rattle.refusal_rules.specs.Answers.{numberSays};
+ghost use Rattle.md_rules.specs.Accepts.{MdOf};
+ghost use Rattle.md_part_rules.specs.Keys.{isNamed, keyIn, keyOf};
 
 // Whether the key at a position, counted from 1, of an accepted file has a name of four bytes.
 fn is_named(file: &[u8], name: &[u8], position: u32) -> bool

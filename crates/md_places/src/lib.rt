@@ -1,21 +1,21 @@
 // Where the parts and fields of an MD file lie, by a layout alone. A layout may be one that a caller has made up: where a field of it is above the bounds that
 // opening sets, there is no such part or field, and nothing is computed from it.
-use md::MdLayout;
-use refusal::NO_SUCH;
-use refusal::Place;
-use refusal::PlaceAnswer;
-use refusal::SizeAnswer;
-use refusal::Verdict;
+use md_rules::MdLayout;
 use refusal::and;
 use refusal::check;
 use refusal::within;
+use refusal_rules::NO_SUCH;
+use refusal_rules::Place;
+use refusal_rules::PlaceAnswer;
+use refusal_rules::SizeAnswer;
+use refusal_rules::Verdict;
 ghost use mathlib.Core.Path.{_≡_};
 ghost use Prim.Native.Nat.{_≤_};
-ghost use Rattle.refusal.specs.Answers.{sizeSays, placeSays};
-ghost use Rattle.refusal.specs.Rules.{firstFault};
-ghost use Rattle.md.specs.Fields.{fieldsOf, fieldWord, IsField};
-ghost use Rattle.md_places.specs.Bounds.{mdBounded, MdBounds};
-ghost use Rattle.md_places.specs.Places.{partRules, partWord, partStartOf, fieldRules, fieldPlace};
+ghost use Rattle.refusal_rules.specs.Rules.{firstFault};
+ghost use Rattle.refusal_rules.specs.Answers.{sizeSays, placeSays};
+ghost use Rattle.md_rules.specs.Bounds.{mdBounded, MdBounds};
+ghost use Rattle.md_rules.specs.Places.{partWord, partRules, partStartOf, fieldRules, fieldPlace};
+ghost use Rattle.md_rules.specs.Fields.{fieldsOf, fieldWord, IsField};
 
 // Whether the fields that MD addresses are computed from are within the bounds that opening sets.
 fn md_bounded(l: MdLayout) -> bool

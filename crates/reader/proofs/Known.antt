@@ -13,13 +13,13 @@ use denote.Builtin.{u8}
 use denote.Signature.{plain, namedLft}
 use denote.Enum.Laws as EL
 use denote.Struct.Laws as LL
-use Rattle.area.proofs.Block as Block
-use Rattle.area.proofs.Block.Laws as Block′
-use Rattle.bands.proofs.Channel as Channel
-use Rattle.bands.proofs.Channel.Laws as Channel′
-use Rattle.layout.specs.declared.Layout.{Layout}
-use Rattle.layout.proofs.Layout as Y
-use Rattle.layout.proofs.Layout.Laws as Y′
+use Rattle.area_rules.proofs.Block as Block
+use Rattle.area_rules.proofs.Block.Laws as Block′
+use Rattle.area_rules.proofs.SlotOrBand as SlotOrBand
+use Rattle.area_rules.proofs.SlotOrBand.Laws as Channel′
+use Rattle.layout_rules.specs.declared.Layout.{Layout}
+use Rattle.layout_rules.proofs.Layout as Y
+use Rattle.layout_rules.proofs.Layout.Laws as Y′
 use Rattle.walks.proofs.Known.{Known, uint, one-of, shared, lent}
 use Rattle.reader.proofs.Reader as Reader
 use Rattle.reader.proofs.Reader.Laws as Reader′
@@ -38,7 +38,7 @@ module _ {n : ℕ} where
   layout = one-of Y.the-type Y′.the-laws tt
 
   abbrev pub channel : Known n
-  channel = one-of Channel.the-type Channel′.the-laws tt
+  channel = one-of SlotOrBand.the-type Channel′.the-laws tt
 
   abbrev pub a-block : Known n
   a-block = one-of Block.the-type Block′.the-laws tt

@@ -114,9 +114,15 @@ module _ {M : Type 1} (𝓤 : URA M) (H : Heap 𝓤) (A : Atoms 𝓤) (ks : List
       made-says : (x : Reader) → ent 𝓤 (ensured 𝓤 H A Made (made 𝓤 H A) κs (a .0, (a .1 .0, tt)) tt x) (fact 𝓤 (x ≡ d))
       made-says x = exE 𝓤 _ (λ ws. snd∗ 𝓤 (sem 𝓤 H A (lasts Made κs (a .0, (a .1 .0, tt)) ws)) (fact 𝓤 (x ≡ d)))
 
+      -- what is had once the reader is made, and once it was passed on
+      abbrev After-maker : Val → SProp 𝓤
+      After-maker w = sep 𝓤 (Contracted 𝓤 H A Made (made 𝓤 H A) .post to-maker w) Rest
+
+      abbrev After-callee : Val → SProp 𝓤
+      After-callee = Contracted 𝓤 H A (Whole ks r) (through 𝓤 H A ks r c) .post (to (value κ d))
+
       -- the reader that the maker gives is passed on
-      passes-on : (w : Val) → ent 𝓤 (sep 𝓤 (Contracted 𝓤 H A Made (made 𝓤 H A) .post to-maker w) Rest)
-          (H .⇛ (guard 𝓤 (Typed (Local κ .mir) (w ∷ [])) (callee (w ∷ passed-as κs ks (a .1 .1)) (Contracted 𝓤 H A (Whole ks r) (through 𝓤 H A ks r c) .post (to w)))))
+      passes-on : (w : Val) → ent 𝓤 (After-maker w) (H .⇛ (guard 𝓤 (Typed (Local κ .mir) (w ∷ [])) (callee (w ∷ passed-as κs ks (a .1 .1)) After-callee)))
       passes-on w =
           qed W (later (some (λ (x : Reader). (raw (toks 𝓤 A 1 κs qs) ⊛ ‵ (B κ .own x (w ∷ []))) ⊛ raw
           (ensured 𝓤 H A Made (made 𝓤 H A) κs (a .0, (a .1 .0, tt)) tt x))) ∷
@@ -144,7 +150,7 @@ module _ {M : Type 1} (𝓤 : URA M) (H : Heap 𝓤) (A : Atoms 𝓤) (ks : List
         (via 𝓤 (sep 𝓤 (maker (Contracted 𝓤 H A Made (made 𝓤 H A) .args (to-maker κs qs a g)) (Contracted 𝓤 H A Made (made 𝓤 H A) .post (to-maker κs qs a g)))
         (Rest κs qs a g)) (monoL 𝓤 (Rest κs qs a g) (met-made (to-maker κs qs a g)))
         (fm _ _ _ (Rest κs qs a g) (λ w. id⊢ 𝓤 _))))
-        (walk κs a (typed κs 𝓤 H A W (bytes ∷ layout ∷ ks) a are) _ _ _ (passes-on κs qs a g)
+        (walk κs a (typed κs 𝓤 H A W (bytes ∷ layout ∷ ks) a are) (After-maker κs qs a g) (After-callee κs qs a g) _ (passes-on κs qs a g)
         (hands-on 𝓤 H A W 1 κs qs (r .slot .row κs) (r .lawful 𝓤 H A W κs) _ _ (said-apart 𝓤 H A ks r W c κs (d κs qs a g, a .1 .1) g))))
 
 -- ---- of the machine's own tables

@@ -12,7 +12,7 @@ use lib.ListN.{length, getD, drop, length-drop, drop-of-length-le, List·getD-eq
 use lib.Seq.{drop-cons}
 use borrow.Author.Tests.{eq-eqb, ne-eqb, eqb-true}
 use Rattle.lists.specs.Choices.{pick}
-use Rattle.refusal.specs.Tests.{sameNumbers}
+use Rattle.refusal_rules.specs.Tests.{sameNumbers}
 use Rattle.script_text.specs.Words.{before, lineEnd, sameWord, firstFrom}
 
 -- a byte of a text is the same whatever stands behind the text

@@ -7,7 +7,7 @@ use lib.Dec.{leb, eqb}
 use lib.ListN.{length, drop}
 use Rattle.lists.specs.Choices.{pick, both}
 use Rattle.lists.specs.Lists.{part}
-use Rattle.refusal.specs.Tests.{sameNumbers}
+use Rattle.refusal_rules.specs.Tests.{sameNumbers}
 
 -- the bytes of a text before the first that is x, or all of them where none is
 unfoldable pub before : ℕ → List ℕ → List ℕ

@@ -1,10 +1,12 @@
 // The text of a script: where a line ends, the word that it begins with, and its numbers.
+// ---- lines and words
+// ---- numbers
 use refusal::and;
 ghost use mathlib.Core.Path.{_≡_};
 ghost use mathlib.Core.Bool.{false};
 ghost use lib.ListN.{getD};
-ghost use Rattle.script_text.specs.Words.{sameWord, isName, lineEnd, nameIn};
-ghost use Rattle.script_text.specs.Numbers.{isDigit, readOn, ends, wordOf, cut, numberIn, countIn, reading};
+ghost use Rattle.script_text.specs.Words.{lineEnd, sameWord, isName, nameIn};
+ghost use Rattle.script_text.specs.Numbers.{isDigit, readOn, cut, ends, wordOf, reading, numberIn, countIn};
 
 // The byte that ends a line.
 const LINE_FEED: u8 = 10;
@@ -33,8 +35,6 @@ struct Reading {
     negative: bool,
     number: u32,
 }
-
-// ---- lines and words
 
 // The index of the end of the line that an index is in: that of the first line feed from there on, or the length of the text where there is none. An index behind the
 // text is its own end.
@@ -103,8 +103,6 @@ pub fn name_in(line: &[u8], names: &[u8]) -> u32
     }
     NO_NAME
 }
-
-// ---- numbers
 
 // Whether a byte is a digit.
 fn is_digit(byte: u8) -> bool

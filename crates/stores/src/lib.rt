@@ -1,33 +1,28 @@
 // The stores of single values, into a file that is lent: a sample of an AREA file, a point of a grid, a field of an MD file. Each changes the bytes of its place only,
-// and a refusal changes nothing. What each does is its plan, of which `store_plans` shows that the order of stores does not matter.
-use bands::Channel;
-use endian::Order;
+// and a refusal changes nothing. ValueName each does is its plan, of which `store_plans` shows that the order of stores does not matter.
+use area_rules::SlotOrBand;
 use endian::unsigned;
-use endian::write_number;
-use layout::Layout;
+use endian_rules::Order;
+use endian_steps::write_number;
 use layout::order_of;
-use places::What;
-use refusal::Place;
-use refusal::PlaceAnswer;
-use refusal::Refusal;
-use refusal::TOO_LARGE;
-use values::place_in;
+use layout_rules::Layout;
+use reads::place_in;
+use refusal_rules::Place;
+use refusal_rules::PlaceAnswer;
+use refusal_rules::Refusal;
+use refusal_rules::TOO_LARGE;
+use store_rules::StoreAnswer;
+use value_rules::ValueName;
 ghost use mathlib.Core.Path.{_≡_};
-ghost use Prim.Native.Nat.{_+_, _^_, _≤_};
+ghost use Prim.Native.Nat.{_^_, _≤_, _+_};
 ghost use lib.Dec.{ltb};
 ghost use lib.ListN.{length};
-ghost use Rattle.plan.specs.Plans.{outcome};
-ghost use Rattle.store_plans.specs.Stores.{putAt, storeSample, storePoint, storeField};
-ghost use Rattle.stores.specs.Answers.{storeSays, storeAt};
-
-// What a store answers: that the value is stored, or a refusal.
-pub enum StoreAnswer {
-    Done,
-    Refused(Refusal),
-}
+ghost use Rattle.store_theory.specs.Plans.{outcome};
+ghost use Rattle.store_rules.specs.Stores.{putAt, storeSample, storePoint, storeField};
+ghost use Rattle.store_rules.specs.Answers.{storeSays, storeAt};
 
 // Whether a number fits so many bytes, one to four.
-fn fits(number: u32, width: usize) -> bool
+fn fits_width(number: u32, width: usize) -> bool
     requires { ⌜ (1 ≤ width) × (width ≤ 4) ⌝ }
     ensures { λ r. ⌜ r ≡ ltb number (256 ^ width) ⌝ }
 {
@@ -44,7 +39,7 @@ fn put(file: &mut [u8], order: Order, place: Place, number: u32) -> StoreAnswer
     requires { ⌜ ((1 ≤ place .width) × (place .width ≤ 4)) × (place .address + place .width ≤ length (now file)) ⌝ }
     ensures { λ r. ⌜ (storeSays r, now (file .exit)) ≡ outcome (now (file .entry)) (putAt order number place) ⌝ }
 {
-    if fits(number, place.width) {
+    if fits_width(number, place.width) {
         write_number(order, place.width, file, place.address, number);
         StoreAnswer::Done
     } else {
@@ -56,7 +51,7 @@ fn put(file: &mut [u8], order: Order, place: Place, number: u32) -> StoreAnswer
 }
 
 // Stores the number that a value's bits are.
-fn store(file: &mut [u8], layout: Layout, what: What, number: u32) -> StoreAnswer
+fn store(file: &mut [u8], layout: Layout, what: ValueName, number: u32) -> StoreAnswer
     ensures { λ r. ⌜ (storeSays r, now (file .exit)) ≡ storeAt (now (file .entry)) layout what number ⌝ }
 {
     let order = order_of(layout);
@@ -67,18 +62,18 @@ fn store(file: &mut [u8], layout: Layout, what: What, number: u32) -> StoreAnswe
 }
 
 // Stores a number, 0 to 4,294,967,295, into the sample of a line and an element, both counted from 0, and a channel of an AREA file. Refused as
-// `values::read_sample`, and then with 8 where the number does not fit the bytes of a sample.
+// `reads::read_sample`, and then with 8 where the number does not fit the bytes of a sample.
 pub fn store_sample(
     file: &mut [u8],
     layout: Layout,
     line: u32,
     element: u32,
-    channel: Channel,
+    channel: SlotOrBand,
     number: u32,
 ) -> StoreAnswer
     ensures { λ r. ⌜ (storeSays r, now (file .exit)) ≡ storeSample (now (file .entry)) layout line element channel number ⌝ }
 {
-    let sample = What::Sample {
+    let sample = ValueName::Sample {
         line: line,
         element: element,
         channel: channel,
@@ -86,7 +81,7 @@ pub fn store_sample(
     store(file, layout, sample, number)
 }
 
-// Stores a signed word into the point of a row and a column, both counted from 1, of a grid. Refused as `values::read_point`.
+// Stores a signed word into the point of a row and a column, both counted from 1, of a grid. Refused as `reads::read_point`.
 pub fn store_point(
     file: &mut [u8],
     layout: Layout,
@@ -96,14 +91,14 @@ pub fn store_point(
 ) -> StoreAnswer
     ensures { λ r. ⌜ (storeSays r, now (file .exit)) ≡ storePoint (now (file .entry)) layout row column value ⌝ }
 {
-    let point = What::Point {
+    let point = ValueName::Point {
         row: row,
         column: column,
     };
     store(file, layout, point, unsigned(value))
 }
 
-// Stores a signed word into the field at a position, counted from 1, of the part of an MD file that coordinates name. Refused as `values::read_field`.
+// Stores a signed word into the field at a position, counted from 1, of the part of an MD file that coordinates name. Refused as `reads::read_field`.
 pub fn store_field(
     file: &mut [u8],
     layout: Layout,
@@ -114,7 +109,7 @@ pub fn store_field(
 ) -> StoreAnswer
     ensures { λ r. ⌜ (storeSays r, now (file .exit)) ≡ storeField (now (file .entry)) layout row column position value ⌝ }
 {
-    let field = What::Field {
+    let field = ValueName::Field {
         row: row,
         column: column,
         position: position,

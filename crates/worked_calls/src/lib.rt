@@ -1,32 +1,32 @@
 // The calls of the library that read, each by a number: what the program `worked` asks of a file.
-use area::Block;
-use area::Region;
+use area_blocks::block_bytes;
+use area_blocks::block_span;
 use area_lines::band_slot;
 use area_lines::copy_line;
-use area_parts::block_bytes;
-use area_parts::block_span;
 use area_prefixes::region_bytes;
 use area_prefixes::region_span;
-use bands::Channel;
-use endian::Order;
+use area_rules::Block;
+use area_rules::Region;
+use area_rules::SlotOrBand;
 use endian::unsigned;
-use endian::write_number;
-use grid_parts::copy_by_columns;
-use grid_parts::copy_by_rows;
-use grid_parts::header_bytes;
-use grid_parts::header_span;
-use layout::Layout;
+use endian_rules::Order;
+use endian_steps::write_number;
+use grid_copies::copy_by_columns;
+use grid_copies::copy_by_rows;
+use grid_copies::header_bytes;
+use grid_copies::header_span;
+use layout_rules::Layout;
 use libc::STDOUT_FILENO;
 use md_keys::find_key;
-use md_parts::copy_record;
-use parts::SpanAnswer;
-use refusal::NumberAnswer;
-use refusal::Refusal;
-use refusal::SizeAnswer;
-use refusal::WordAnswer;
-use values::read_field;
-use values::read_point;
-use values::read_sample;
+use md_records::copy_record;
+use reads::read_field;
+use reads::read_point;
+use reads::read_sample;
+use refusal_rules::NumberAnswer;
+use refusal_rules::Refusal;
+use refusal_rules::SizeAnswer;
+use refusal_rules::WordAnswer;
+use span_rules::SpanAnswer;
 ghost use mathlib.Core.Path.{_≡_};
 ghost use lib.Dec.{ltb};
 
@@ -238,7 +238,7 @@ fn ask_region(file: &[u8], layout: Layout, line: u32, region: Region) {
 }
 
 // A channel of a line, copied into the first places of an output.
-fn ask_line(file: &[u8], layout: Layout, line: u32, channel: Channel, n: u32, out: &mut [u32]) {
+fn ask_line(file: &[u8], layout: Layout, line: u32, channel: SlotOrBand, n: u32, out: &mut [u32]) {
     let end = n as usize;
     if end <= out.len() {
         say_copy(copy_line(file, layout, line, channel, &mut out[0..end]));
@@ -290,11 +290,11 @@ fn ask_name(file: &[u8], layout: Layout, number: u32, n: u32) {
 fn ask_area(file: &[u8], layout: Layout, call: u32, a: u32, b: u32, c: u32) {
     let mut out = [9999u32; 8];
     match call {
-        SAMPLE => say_number(read_sample(file, layout, a, b, Channel::Slot(c))),
-        BAND_SAMPLE => say_number(read_sample(file, layout, a, b, Channel::Band(c))),
+        SAMPLE => say_number(read_sample(file, layout, a, b, SlotOrBand::Slot(c))),
+        BAND_SAMPLE => say_number(read_sample(file, layout, a, b, SlotOrBand::Band(c))),
         BAND_SLOT => say_number(band_slot(file, layout, a)),
-        LINE => ask_line(file, layout, a, Channel::Slot(b), c, &mut out),
-        _ => ask_line(file, layout, a, Channel::Band(b), c, &mut out),
+        LINE => ask_line(file, layout, a, SlotOrBand::Slot(b), c, &mut out),
+        _ => ask_line(file, layout, a, SlotOrBand::Band(b), c, &mut out),
     }
 }
 

@@ -2,44 +2,44 @@
 -- Assumes nothing.
 use mathlib.Core.Path.{refl, ap, _∙_}
 use Rattle.lists.specs.Lists.{listOf}
-use Rattle.endian.specs.Files.{given, bytesOf}
-use Rattle.endian.specs.Numbers.{value, digits, decode, encode, numberAt}
-use Rattle.endian.specs.Words.{wordAt, atLeast}
-use Rattle.refusal.specs.Answers.{andThen}
-use Rattle.refusal.specs.Rules.{judge, first, firstFault}
-use Rattle.refusal.specs.Tests.{within}
-use Rattle.area.specs.Opening as area
-use Rattle.area.specs.Blocks.{nextStart}
-use Rattle.area.specs.Worked.{fileP, P, fileB, B, layoutP, layoutB}
-use Rattle.area.proofs.Worked.{worked-area}
-use Rattle.area.specs.declared.Block.the-variants.{Nav}
+use Rattle.endian_rules.specs.Files.{given, bytesOf}
+use Rattle.endian_rules.specs.Numbers.{value, digits, decode, encode, numberAt}
+use Rattle.endian_rules.specs.Words.{wordAt, atLeast}
+use Rattle.refusal_rules.specs.Answers.{andThen}
+use Rattle.refusal_rules.specs.Rules.{judge, first, firstFault}
+use Rattle.refusal_rules.specs.Tests.{within}
+use Rattle.area_rules.specs.Opening as area
+use Rattle.area_rules.specs.Blocks.{nextStart}
+use Rattle.area_rules.specs.Worked.{fileP, P, fileB, B, layoutP, layoutB}
+use Rattle.area_rules.proofs.Worked.{worked-area}
+use Rattle.area_rules.specs.declared.Block.the-variants.{Nav}
 use Rattle.area_rules.specs.Rules as area-rules
-use Rattle.grid.specs.Worked.{fileG, G, layoutG}
-use Rattle.grid.proofs.Worked.{worked-grid}
+use Rattle.grid_rules.specs.Worked.{fileG, G, layoutG}
+use Rattle.grid_rules.proofs.Worked.{worked-grid}
 use Rattle.grid_rules.specs.Rules as grid-rules
 use Rattle.grid_rules.specs.Opening as grid
-use Rattle.md.specs.Fields.{fieldsOf, fieldWord}
-use Rattle.md.specs.Opening as md
-use Rattle.md.specs.Rules as md-rules
-use Rattle.md.specs.Worked.{fileM, M, layoutM}
-use Rattle.md.proofs.Worked.{worked-md}
-use Rattle.layout.proofs.Freshness.{found-fresh}
-use Rattle.layout.proofs.OneKind.{fresh-area, fresh-grid, fresh-md}
-use Rattle.area_places.specs.Bounds.{areaBounded}
-use Rattle.area_places.specs.Places.{sampleRules, samplePlace}
-use Rattle.grid_places.specs.Bounds.{gridBounded}
-use Rattle.grid_places.specs.Places.{pointRules, pointPlace}
-use Rattle.md_places.specs.Bounds.{mdBounded}
-use Rattle.md_places.specs.Places.{partRules, fieldRules, fieldPlace}
-use Rattle.places.specs.Places.{placeOf}
-use Rattle.area_parts.specs.Spans.{blockRules, blockOf}
+use Rattle.md_rules.specs.Fields.{fieldsOf, fieldWord}
+use Rattle.md_rules.specs.Opening as md
+use Rattle.md_rules.specs.Rules as md-rules
+use Rattle.md_rules.specs.Worked.{fileM, M, layoutM}
+use Rattle.md_rules.proofs.Worked.{worked-md}
+use Rattle.layout_rules.proofs.Freshness.{found-fresh}
+use Rattle.layout_rules.proofs.OneKind.{fresh-area, fresh-grid, fresh-md}
+use Rattle.area_rules.specs.Bounds.{areaBounded}
+use Rattle.area_rules.specs.Places.{sampleRules, samplePlace}
+use Rattle.grid_rules.specs.Bounds.{gridBounded}
+use Rattle.grid_rules.specs.Places.{pointRules, pointPlace}
+use Rattle.md_rules.specs.Bounds.{mdBounded}
+use Rattle.md_rules.specs.Places.{partRules, fieldRules, fieldPlace}
+use Rattle.value_rules.specs.Places.{placeOf}
+use Rattle.area_part_rules.specs.Blocks.{blockRules, blockOf}
 use Rattle.worked_cases.specs.WorkedCases.{WorkedCases}
 
 pub worked-cases : WorkedCases
-unfolding area.openArea area.openTold area-rules.areaRules area-rules.wordRules area-rules.describedRules area-rules.countRules area-rules.shapeRules
-    area-rules.placeRules area-rules.directoryOf area-rules.wordIn grid.openGrid grid.openWords grid-rules.fileRules grid-rules.headRules grid-rules.slotsRules
+unfolding area.openArea area.openAreaTold area-rules.areaRules area-rules.areaWordRules area-rules.areaDescribedRules area-rules.areaCountRules area-rules.areaShapeRules
+    area-rules.areaPlaceRules area-rules.directoryOf area-rules.wordIn grid.openGrid grid.openGridWords grid-rules.gridFileRules grid-rules.gridHeadRules grid-rules.slotsRules
     grid-rules.slotRules grid-rules.ownRules grid-rules.headerRules grid-rules.sizeRules grid-rules.overlapRule grid-rules.meets grid-rules.shares
-    grid-rules.wantedRules md.openMd md.openWords md-rules.mdRules md-rules.countRules md-rules.sumRules md-rules.fixedRules md-rules.endRules firstFault first
+    grid-rules.wantedRules md.openMd md.openMdWords md-rules.mdRules md-rules.mdCountRules md-rules.mdSumRules md-rules.mdFixedRules md-rules.mdEndRules firstFault first
     judge within atLeast listOf wordAt numberAt decode encode value digits given bytesOf nextStart areaBounded gridBounded mdBounded sampleRules
     samplePlace pointRules pointPlace partRules fieldRules fieldPlace fieldsOf fieldWord placeOf blockRules blockOf fileP P fileB B layoutP layoutB fileG G layoutG fileM
     layoutM

@@ -3,21 +3,21 @@
 -- Assumes nothing.
 use mathlib.Core.Path.{_≡_}
 use lib.ListN.{take}
-use Rattle.endian.specs.declared.Order.the-variants.{Big}
-use Rattle.refusal.specs.Answers.{gives, refuses, place, wordPlace}
-use Rattle.area.specs.Opening.{openArea}
-use Rattle.area.specs.Worked.{P, fileB, B, layoutP, layoutB}
-use Rattle.area.specs.declared.Block.the-variants.{Nav}
-use Rattle.grid.specs.Worked.{fileG, G, layoutG}
+use Rattle.endian_rules.specs.declared.Order.the-variants.{Big}
+use Rattle.refusal_rules.specs.Answers.{gives, refuses, place, wordPlace}
+use Rattle.area_rules.specs.Opening.{openArea}
+use Rattle.area_rules.specs.Worked.{P, fileB, B, layoutP, layoutB}
+use Rattle.area_rules.specs.declared.Block.the-variants.{Nav}
+use Rattle.grid_rules.specs.Worked.{fileG, G, layoutG}
 use Rattle.grid_rules.specs.Opening.{openGrid}
-use Rattle.md.specs.Opening.{openMd}
-use Rattle.md.specs.Worked.{fileM, M, layoutM}
-use Rattle.layout.specs.declared.Layout.the-variants.{Area, Grid, Md}
-use Rattle.bands.specs.declared.Channel.the-variants.{Slot}
-use Rattle.places.specs.declared.What.the-variants.{Sample, Point, Field}
-use Rattle.values.specs.Reading.{placeIn}
-use Rattle.parts.specs.Spans.{span}
-use Rattle.area_parts.specs.Spans.{blockSpan}
+use Rattle.md_rules.specs.Opening.{openMd}
+use Rattle.md_rules.specs.Worked.{fileM, M, layoutM}
+use Rattle.layout_rules.specs.declared.Layout.the-variants.{Area, Grid, Md}
+use Rattle.area_rules.specs.declared.SlotOrBand.the-variants.{Slot}
+use Rattle.value_rules.specs.declared.ValueName.the-variants.{Sample, Point, Field}
+use Rattle.value_rules.specs.Reading.{placeIn}
+use Rattle.span_rules.specs.Spans.{span}
+use Rattle.area_part_rules.specs.Blocks.{blockSpan}
 
 pub record WorkedCases : Type 0 where
   -- the layouts are those that opening gives

@@ -1,10 +1,10 @@
 // Dates and times of day, among them those of document 01. What the program must write, in the file `stdout`, was worked out from document 01.
-use calendar::DateAnswer;
-use calendar::TimeAnswer;
 use calendar::date_of;
 use calendar::time_of;
+use calendar_rules::DateAnswer;
+use calendar_rules::TimeAnswer;
 use libc::STDOUT_FILENO;
-use refusal::Refusal;
+use refusal_rules::Refusal;
 
 // Writes text.
 fn print(text: &[u8]) {

@@ -12,22 +12,22 @@
 // - the other words in `call_of` below ask a call of the file, with the layout that was kept and three numbers; see `worked_calls`.
 //
 // Any other line is written as it is.
-use bands::Channel;
-use endian::Order;
+use area_rules::SlotOrBand;
 use endian::signed;
-use layout::Layout;
-use layout::Opening;
+use endian_rules::Order;
 use layout::open_area;
 use layout::open_grid;
 use layout::open_md;
+use layout_rules::Layout;
+use layout_rules::Opening;
 use libc::STDIN_FILENO;
 use libc::STDOUT_FILENO;
-use md::MdLayout;
-use refusal::Refusal;
+use md_rules::MdLayout;
+use refusal_rules::Refusal;
 use script_text::line_end;
 use script_text::name_in;
 use script_text::number_in;
-use stores::StoreAnswer;
+use store_rules::StoreAnswer;
 use stores::store_field;
 use stores::store_point;
 use stores::store_sample;
@@ -180,8 +180,8 @@ fn asked(layout: Layout, call: u32, n: Numbers, file: &[u8]) {
 // Stores the last of three or four numbers, at the place that the others say.
 fn stored(layout: Layout, call: u32, n: Numbers, file: &mut [u8]) -> StoreAnswer {
     match call {
-        STORE_SAMPLE => store_sample(file, layout, n.a, n.b, Channel::Slot(n.c), n.d),
-        STORE_BAND => store_sample(file, layout, n.a, n.b, Channel::Band(n.c), n.d),
+        STORE_SAMPLE => store_sample(file, layout, n.a, n.b, SlotOrBand::Slot(n.c), n.d),
+        STORE_BAND => store_sample(file, layout, n.a, n.b, SlotOrBand::Band(n.c), n.d),
         STORE_POINT => store_point(file, layout, n.a, n.b, signed(n.c)),
         _ => store_field(file, layout, n.a, n.b, n.c, signed(n.d)),
     }

@@ -10,8 +10,8 @@ use lib.ListN.{length, getD, set, take, drop, length-drop}
 use lib.Seq.{sets, length-sets, length-take-le, take-all, take-suc, drop-cons, set-at}
 use borrow.Author.Tests.{le-leb, lt-leb, lt-ltb, le-ltb}
 use Rattle.lists.specs.Choices.{pick}
-use Rattle.endian.specs.Numbers.{encode, numberAt}
-use Rattle.endian.specs.declared.Order.{Order}
+use Rattle.endian_rules.specs.Numbers.{encode, numberAt}
+use Rattle.endian_rules.specs.declared.Order.{Order}
 use Rattle.worked_files.specs.Files.{hasWord, wordSet, setWord, setWords, countWords, laidOver}
 
 -- ---- words

@@ -8,8 +8,8 @@ use lib.ListN.{length, take}
 use lib.Seq.{sets}
 use Rattle.lists.specs.Choices.{pick, both}
 use Rattle.lists.specs.Lists.{listOf, over}
-use Rattle.endian.specs.Numbers.{encode, numberAt}
-use Rattle.endian.specs.declared.Order.{Order}
+use Rattle.endian_rules.specs.Numbers.{encode, numberAt}
+use Rattle.endian_rules.specs.declared.Order.{Order}
 use Rattle.script_text.specs.Numbers.{numbersOf}
 
 -- ---- words

@@ -1,14 +1,17 @@
 // What the program `worked` does to the bytes of a file: it makes them, sets words of four bytes, and keeps a copy. Each word of a script that does so has a number.
-use endian::Order;
-use endian::read_number;
-use endian::write_number;
+// ---- words
+// ---- a file that is made
+// ---- a copy
+use endian_rules::Order;
+use endian_steps::read_number;
+use endian_steps::write_number;
 use libc::STDOUT_FILENO;
 use script_text::count_in;
 use script_text::number_in;
 ghost use mathlib.Core.Path.{_≡_};
 ghost use lib.ListN.{length, take};
 ghost use Rattle.script_text.specs.Numbers.{numbersOf};
-ghost use Rattle.worked_files.specs.Files.{wordSet, setWords, countWords, areaByte, areaBytes, changed, laidOver, compared};
+ghost use Rattle.worked_files.specs.Files.{wordSet, setWords, areaByte, areaBytes, countWords, changed, laidOver, compared};
 
 // The number of `area`, which fills a file with a directory of zeros and the bytes behind it.
 pub const AREA: u32 = 22;
@@ -24,8 +27,6 @@ pub const RESTORE: u32 = 33;
 
 // The number of `differences`, which writes what differs.
 pub const DIFFERENCES: u32 = 34;
-
-// ---- words
 
 // Sets word k, counted from a first number on, where the file has it, and answers what it held, or 0.
 pub fn set_word(order: Order, first: u32, k: u32, n: u32, file: &mut [u8]) -> u32
@@ -55,8 +56,6 @@ fn set_words(order: Order, first: u32, line: &[u8], file: &mut [u8])
         i += 1;
     }
 }
-
-// ---- a file that is made
 
 // Byte i of an AREA file.
 fn area_byte(i: usize) -> u8
@@ -101,8 +100,6 @@ pub fn change(order: Order, first: u32, call: u32, line: &[u8], file: &mut [u8])
     }
     fill_words(order, file);
 }
-
-// ---- a copy
 
 // Copies as many bytes as both have.
 fn copy_bytes(from: &[u8], to: &mut [u8])

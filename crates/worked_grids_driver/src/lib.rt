@@ -12,26 +12,26 @@
 //   differs from the copy, by its index and its value.
 //
 // Any other line is written as it is.
-use endian::Order;
-use endian::read_word;
 use endian::signed;
-use extents::Extent;
-use grid_changes::AddAnswer;
+use endian_rules::Order;
+use endian_steps::read_word;
+use extent_rules::Extent;
 use grid_rules::GridLayout;
 use grid_rules::GridOpening;
-use layout::Layout;
+use grid_update_rules::AddAnswer;
+use grid_updates_by_value::Addition;
+use grid_updates_by_value::Deletion;
+use grid_updates_by_value::PLACES;
+use grid_updates_by_value::add_with_table;
+use grid_updates_by_value::delete_with_table;
+use layout_rules::Layout;
 use libc::STDIN_FILENO;
 use libc::STDOUT_FILENO;
-use refusal::Refusal;
-use refusal::SizeAnswer;
+use refusal_rules::Refusal;
+use refusal_rules::SizeAnswer;
 use script_text::line_end;
 use script_text::name_in;
 use script_text::number_in;
-use table_values::Addition;
-use table_values::Deletion;
-use table_values::PLACES;
-use table_values::add_with_table;
-use table_values::delete_with_table;
 use worked_calls::ask;
 use worked_files::AREA;
 use worked_files::KEEP;

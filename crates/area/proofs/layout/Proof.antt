@@ -1,7 +1,7 @@
 -- `area::layout` meets its contract: each field is the entry of its word.
 -- Assumes nothing.
 use Rattle.area_rules.specs.Rules.{wordIn}
-use Rattle.area.specs.Opening.{layoutOf}
+use Rattle.area_rules.specs.Opening.{areaLayoutOf}
 use borrow.Author.Needs.{needs}
 use Rattle.area.proofs.layout.Statement.{statement}
 use Rattle.area.proofs.layout.Tie as tie
@@ -61,7 +61,7 @@ element-copy-out-t53 : tie.Need-element-copy-out-t53
 element-copy-out-t53 c = search needs
 
 returns : tie.Need-returns
-unfolding layoutOf wordIn
+unfolding areaLayoutOf wordIn
 returns c =
     let start = c .before .before .before .before .before .before .before .before .before in
     rw (start .before .before .before .before .before .before .second-map .ensures)

@@ -1,6 +1,6 @@
 -- `area::open` meets its contract: the length that is told is the file's own.
 -- Assumes nothing.
-use Rattle.area.specs.Opening.{openArea}
+use Rattle.area_rules.specs.Opening.{openArea}
 use borrow.Author.Needs.{needs}
 use Rattle.area.proofs.open.Statement.{statement}
 use Rattle.area.proofs.open.Tie as tie

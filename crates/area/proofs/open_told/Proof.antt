@@ -1,7 +1,7 @@
 -- `area::open_told` meets its contract: the length and W2 are checked in the order of the table, and a file is opened in the order found.
 -- Assumes nothing.
 use mathlib.Core.Path.{sym, _∙_}
-use Rattle.area.proofs.Directory.{short-file, short-directory, opens-big, opens-little, opens-neither}
+use Rattle.area_rules.proofs.Directory.{short-file, short-directory, opens-big, opens-little, opens-neither}
 use borrow.Author.Needs.{needs}
 use Rattle.area.proofs.open_told.Statement.{statement}
 use Rattle.area.proofs.open_told.Tie as tie

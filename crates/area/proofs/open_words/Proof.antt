@@ -1,8 +1,8 @@
 -- `area::open_words` meets its contract: the verdict picks the answer.
 -- Assumes nothing.
 use mathlib.Core.Path.{sym, ap, _∙_}
-use Rattle.refusal.specs.Answers.{gives}
-use Rattle.area.specs.Opening.{openWords}
+use Rattle.refusal_rules.specs.Answers.{gives}
+use Rattle.area_rules.specs.Opening.{openAreaWords}
 use borrow.Author.Needs.{needs}
 use Rattle.area.proofs.open_words.Statement.{statement}
 use Rattle.area.proofs.open_words.Tie as tie
@@ -20,11 +20,11 @@ layout-requires : tie.Need-layout-requires
 layout-requires c κs = search needs
 
 returns : tie.Need-returns
-unfolding openWords
+unfolding openAreaWords
 returns c = rw (sym (c .before .before .before .word-verdict .ensures) ∙ c .before .refusal .given .1)
 
 returns-2 : tie.Need-returns-2
-unfolding openWords
+unfolding openAreaWords
 returns-2 c =
     rw (sym (c .before .before .before .word-verdict .ensures) ∙ c .before .enum-told .given .1)
     (ap gives (c .layout .ensures))

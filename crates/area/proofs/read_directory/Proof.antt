@@ -6,8 +6,8 @@ use Prim.Native.Nat.{ℕ, _-_, _≤_, zero-le}
 use native.Mathlib.Omega.{arith}
 use denote.Ref.{now}
 use lib.ListN.{length, drop}
-use Rattle.endian.specs.Words.{wordAt}
-use Rattle.endian.specs.declared.Order.{Order}
+use Rattle.endian_rules.specs.Words.{wordAt}
+use Rattle.endian_rules.specs.declared.Order.{Order}
 use Rattle.lists.specs.Lists.{listOf}
 use Rattle.lists.proofs.Built.{length-listOf}
 use Rattle.lists.proofs.Filled.{over-all, over-listOf, filled-more}

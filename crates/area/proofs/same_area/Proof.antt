@@ -1,7 +1,7 @@
 -- `area::same_area` meets its contract: the chain of comparisons is the comparison of the lists.
 -- Assumes nothing.
-use Rattle.refusal.specs.Tests.{sameNumbers}
-use Rattle.area.specs.Opening.{sameArea}
+use Rattle.refusal_rules.specs.Tests.{sameNumbers}
+use Rattle.area_rules.specs.Opening.{sameArea}
 use borrow.Author.Needs.{needs}
 use Rattle.area.proofs.same_area.Statement.{statement}
 use Rattle.area.proofs.same_area.Tie as tie

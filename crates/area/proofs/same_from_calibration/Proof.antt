@@ -1,6 +1,6 @@
 -- `area::same_from_calibration` meets its contract: the chain of comparisons is the comparison of the lists.
 -- Assumes nothing.
-use Rattle.refusal.specs.Tests.{sameNumbers}
+use Rattle.refusal_rules.specs.Tests.{sameNumbers}
 use borrow.Author.Needs.{needs}
 use Rattle.area.proofs.same_from_calibration.Statement.{statement}
 use Rattle.area.proofs.same_from_calibration.Tie as tie

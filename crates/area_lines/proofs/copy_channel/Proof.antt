@@ -4,10 +4,10 @@ use mathlib.Core.Path.{sym, ap, _∙_}
 use native.Mathlib.Nat.{mul-le-mul}
 use native.Mathlib.Omega.{arith}
 use denote.Ref.{now}
-use Rattle.refusal.specs.Answers.{mapped, placeSays}
-use Rattle.area.proofs.Samples.{width-to}
-use Rattle.parts.specs.Runs.{copied}
-use Rattle.area_lines.proofs.Lines.{runFrom, line-from, run-inside}
+use Rattle.refusal_rules.specs.Answers.{mapped, placeSays}
+use Rattle.area_rules.proofs.Samples.{width-to}
+use Rattle.copy_rules.specs.Runs.{copied}
+use Rattle.area_part_rules.proofs.Lines.{runFrom, line-from, run-inside}
 use borrow.Author.Needs.{needs}
 use Rattle.area_lines.proofs.copy_channel.Statement.{statement}
 use Rattle.area_lines.proofs.copy_channel.Tie as tie

@@ -1,8 +1,8 @@
 -- `area_lines::copy_line` meets its contract: the layout that is found is copied from, and a refusal is passed on.
 -- Assumes nothing.
 use mathlib.Core.Path.{sym, ap, _∙_}
-use Rattle.area.specs.Opening.{areaSays}
-use Rattle.layout.proofs.OneKind.{area-known}
+use Rattle.area_rules.specs.Opening.{areaSays}
+use Rattle.layout_rules.proofs.OneKind.{area-known}
 use borrow.Author.Needs.{needs}
 use Rattle.area_lines.proofs.copy_line.Statement.{statement}
 use Rattle.area_lines.proofs.copy_line.Tie as tie

@@ -1,6 +1,6 @@
 -- `area_places::area_bounded` meets its contract: its tests are those of the definition.
 -- Assumes nothing.
-use Rattle.area_places.specs.Bounds.{areaBounded}
+use Rattle.area_rules.specs.Bounds.{areaBounded}
 use borrow.Author.Needs.{needs}
 use Rattle.area_places.proofs.area_bounded.Statement.{statement}
 use Rattle.area_places.proofs.area_bounded.Tie as tie

@@ -1,11 +1,11 @@
 -- `area_places::line_start` meets its contract: the chain of checks is the table of rules, and its verdict picks the answer.
 -- Assumes nothing.
 use mathlib.Core.Path.{_≡_, sym, ap, _∙_}
-use Rattle.refusal.specs.Answers.{gives}
-use Rattle.refusal.specs.Rules.{firstFault, chained}
-use Rattle.refusal.proofs.Tables.{by-table, pass-hold}
-use Rattle.area_places.specs.Places.{lineRules, lineStartOf}
-use Rattle.area_places.proofs.Tables.{lines-hold}
+use Rattle.refusal_rules.specs.Answers.{gives}
+use Rattle.refusal_rules.specs.Rules.{firstFault, chained}
+use Rattle.refusal_rules.proofs.Tables.{by-table, pass-hold}
+use Rattle.area_rules.specs.Places.{lineRules, lineStartOf}
+use Rattle.area_rules.proofs.Tables.{lines-hold}
 use borrow.Author.Needs.{needs}
 use Rattle.area_places.proofs.line_start.Statement.{statement}
 use Rattle.area_places.proofs.line_start.Tie as tie

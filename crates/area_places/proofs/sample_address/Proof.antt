@@ -2,8 +2,8 @@
 -- Assumes nothing.
 use mathlib.Core.Path.{_≡_}
 use native.Mathlib.Omega.{arith}
-use Rattle.area.specs.Samples.{lineStart}
-use Rattle.area_places.proofs.Sizes.{lines-most, before-most, bytes-most}
+use Rattle.area_rules.specs.Samples.{lineStart}
+use Rattle.area_rules.proofs.Sizes.{lines-most, before-most, bytes-most}
 use borrow.Author.Needs.{needs}
 use Rattle.area_places.proofs.sample_address.Statement.{statement}
 use Rattle.area_places.proofs.sample_address.Tie as tie

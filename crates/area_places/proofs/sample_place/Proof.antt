@@ -3,11 +3,11 @@
 use mathlib.Core.Path.{sym, ap, _∙_}
 use Prim.Native.Nat.{ℕ}
 use native.Mathlib.Omega.{arith}
-use Rattle.refusal.specs.Answers.{gives, numberSays, place}
-use Rattle.refusal.proofs.Tables.{pass-hold}
-use Rattle.bands.proofs.Slots.{slot-inside}
-use Rattle.area_places.specs.Places.{samplePlace}
-use Rattle.area_places.proofs.Tables.{samples-hold}
+use Rattle.refusal_rules.specs.Answers.{gives, numberSays, place}
+use Rattle.refusal_rules.proofs.Tables.{pass-hold}
+use Rattle.area_rules.proofs.Bands.{slot-inside}
+use Rattle.area_rules.specs.Places.{samplePlace}
+use Rattle.area_rules.proofs.Tables.{samples-hold}
 use borrow.Author.Needs.{needs}
 use Rattle.area_places.proofs.sample_place.Statement.{statement}
 use Rattle.area_places.proofs.sample_place.Tie as tie

@@ -1,8 +1,8 @@
 -- `area_places::sample_verdict` meets its contract: the chain of checks is the table of rules.
 -- Assumes nothing.
-use Rattle.refusal.specs.Rules.{chained}
-use Rattle.refusal.proofs.Tables.{by-table}
-use Rattle.area_places.specs.Places.{sampleRules}
+use Rattle.refusal_rules.specs.Rules.{chained}
+use Rattle.refusal_rules.proofs.Tables.{by-table}
+use Rattle.area_rules.specs.Places.{sampleRules}
 use borrow.Author.Needs.{needs}
 use Rattle.area_places.proofs.sample_verdict.Statement.{statement}
 use Rattle.area_places.proofs.sample_verdict.Tie as tie

@@ -2,8 +2,8 @@
 -- Assumes nothing.
 use mathlib.Core.Path.{sym, ap, subst, _∙_}
 use denote.Ref.{now}
-use Rattle.parts.specs.Spans.{handed, Inside}
-use Rattle.area_prefixes.proofs.Regions.{region-in-file}
+use Rattle.span_rules.specs.Spans.{handed, Inside}
+use Rattle.area_part_rules.proofs.Regions.{region-in-file}
 use borrow.Author.Needs.{needs}
 use Rattle.area_prefixes.proofs.region_bytes.Statement.{statement}
 use Rattle.area_prefixes.proofs.region_bytes.Tie as tie

@@ -3,18 +3,18 @@
 use mathlib.Core.Path.{_≡_, sym, ap, _∙_}
 use Prim.Native.Nat.{_+_, _<_}
 use native.Mathlib.Omega.{arith}
-use Rattle.refusal.specs.Answers.{gives, sizeSays}
-use Rattle.refusal.specs.Rules.{firstFault, chained}
-use Rattle.refusal.proofs.Answers.{gives-refuses, gives-same}
-use Rattle.refusal.proofs.Tables.{by-table, pass-hold}
-use Rattle.area.specs.Samples.{lineStart}
-use Rattle.area.specs.Blocks.{regionOffset}
-use Rattle.area.proofs.Regions.{region-prefix}
-use Rattle.area.proofs.Samples.{line-inside}
-use Rattle.area_places.proofs.Places.{line-begins}
-use Rattle.parts.specs.Spans.{span}
-use Rattle.area_prefixes.specs.Regions.{regionRules, regionOf}
-use Rattle.area_prefixes.proofs.Regions.{region-hold}
+use Rattle.refusal_rules.specs.Answers.{gives, sizeSays}
+use Rattle.refusal_rules.specs.Rules.{firstFault, chained}
+use Rattle.refusal_rules.proofs.Answers.{gives-refuses, gives-same}
+use Rattle.refusal_rules.proofs.Tables.{by-table, pass-hold}
+use Rattle.area_rules.specs.Samples.{lineStart}
+use Rattle.area_rules.specs.Blocks.{regionOffset}
+use Rattle.area_rules.proofs.Regions.{region-prefix}
+use Rattle.area_rules.proofs.Samples.{line-inside}
+use Rattle.area_rules.proofs.Places.{line-begins}
+use Rattle.span_rules.specs.Spans.{span}
+use Rattle.area_part_rules.specs.Regions.{regionRules, regionOf}
+use Rattle.area_part_rules.proofs.Regions.{region-hold}
 use borrow.Author.Needs.{needs}
 use Rattle.area_prefixes.proofs.region_of.Statement.{statement}
 use Rattle.area_prefixes.proofs.region_of.Tie as tie

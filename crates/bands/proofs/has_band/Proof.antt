@@ -4,8 +4,8 @@ use mathlib.Core.Path.{sym, ap, _∙_}
 use Prim.Native.Nat.{_≤_}
 use native.Mathlib.Omega.{arith}
 use lib.Dec.{eqb}
-use Rattle.refusal.specs.Tests.{within}
-use Rattle.refusal.proofs.Exactness.{within-exactly}
+use Rattle.refusal_rules.specs.Tests.{within}
+use Rattle.refusal_rules.proofs.Exactness.{within-exactly}
 use borrow.Author.Needs.{needs}
 use Rattle.bands.proofs.has_band.Statement.{statement}
 use Rattle.bands.proofs.has_band.Tie as tie

@@ -4,7 +4,7 @@ use Prim.Native.Nat.{_-_, _/_, _^_}
 use lib.Bits.{and-mask}
 use borrow.Author.Needs.{needs}
 use borrow.Author.Tests.{lt-ltb, le-ltb}
-use Rattle.bands.specs.Bands.{mapBit}
+use Rattle.area_rules.specs.Bands.{mapBit}
 use Rattle.bands.proofs.map_bit.Statement.{statement}
 use Rattle.bands.proofs.map_bit.Tie as tie
 

@@ -5,8 +5,8 @@ use Prim.Native.Nat.{_-_, _≤_}
 use native.Mathlib.Numerals.{add-one}
 use native.Mathlib.Omega.{arith}
 use borrow.Author.Needs.{needs}
-use Rattle.bands.specs.Bands.{setBelow}
-use Rattle.bands.proofs.Slots.{bit-most, below-most}
+use Rattle.area_rules.specs.Bands.{setBelow}
+use Rattle.area_rules.proofs.Bands.{bit-most, below-most}
 use Rattle.bands.proofs.set_below.Statement.{statement}
 use Rattle.bands.proofs.set_below.Tie as tie
 

@@ -3,8 +3,8 @@
 use mathlib.Core.Path.{_≡_, sym, _∙_}
 use mathlib.Core.List.{[], _∷_}
 use lib.Dec.{ltb}
-use Rattle.refusal.specs.Rules.{rule, firstFault, chained}
-use Rattle.refusal.proofs.Tables.{by-table}
+use Rattle.refusal_rules.specs.Rules.{rule, firstFault, chained}
+use Rattle.refusal_rules.proofs.Tables.{by-table}
 use borrow.Author.Needs.{needs}
 use Rattle.bands.proofs.slot_of.Statement.{statement}
 use Rattle.bands.proofs.slot_of.Tie as tie

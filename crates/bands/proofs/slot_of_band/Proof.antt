@@ -2,11 +2,11 @@
 -- Assumes nothing.
 use mathlib.Core.Path.{_≡_, sym, ap, _∙_}
 use native.Mathlib.Omega.{arith}
-use Rattle.refusal.specs.Answers.{gives}
-use Rattle.refusal.specs.Rules.{firstFault, chained}
-use Rattle.refusal.proofs.Tables.{by-table, pass-hold}
-use Rattle.bands.specs.Bands.{bandRules, bandSlot}
-use Rattle.bands.proofs.Slots.{HasBand, band-exactly}
+use Rattle.refusal_rules.specs.Answers.{gives}
+use Rattle.refusal_rules.specs.Rules.{firstFault, chained}
+use Rattle.refusal_rules.proofs.Tables.{by-table, pass-hold}
+use Rattle.area_rules.specs.Bands.{bandRules, bandSlot}
+use Rattle.area_rules.proofs.Bands.{HasBand, band-exactly}
 use borrow.Author.Needs.{needs}
 use Rattle.bands.proofs.slot_of_band.Statement.{statement}
 use Rattle.bands.proofs.slot_of_band.Tie as tie

@@ -4,8 +4,8 @@ use mathlib.Core.Path.{_≡_, ap, ap₂, _∙_}
 use Prim.Native.Nat.{_<_}
 use native.Mathlib.Omega.{arith}
 use borrow.Author.Needs.{needs}
-use Rattle.calendar.specs.Gregorian.{leap, daysBefore, monthOf, dateIn}
-use Rattle.calendar.proofs.Months.{month-lies}
+use Rattle.calendar_rules.specs.Gregorian.{leap, daysBefore, monthOf, dateIn}
+use Rattle.calendar_rules.proofs.Months.{month-lies}
 use Rattle.calendar.proofs.date_in.Statement.{statement}
 use Rattle.calendar.proofs.date_in.Tie as tie
 

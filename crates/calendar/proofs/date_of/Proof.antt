@@ -2,11 +2,11 @@
 -- Assumes nothing.
 use mathlib.Core.Path.{sym, ap, _∙_}
 use borrow.Author.Needs.{needs}
-use Rattle.refusal.specs.Rules.{judge, first, firstFault}
-use Rattle.endian.proofs.Signs.{NotNegative, not-negative, negative}
+use Rattle.refusal_rules.specs.Rules.{judge, first, firstFault}
+use Rattle.endian_rules.proofs.Signs.{NotNegative, not-negative, negative}
 use mir.Syntax.{w32}
 use mir.Val.{toZ, ofZ}
-use Rattle.calendar.specs.Dates.{dateRules, dateOf}
+use Rattle.calendar_rules.specs.Dates.{dateRules, dateOf}
 use Rattle.calendar.proofs.date_of.Statement.{statement}
 use Rattle.calendar.proofs.date_of.Tie as tie
 

@@ -5,11 +5,11 @@ use Prim.Native.Nat.{ℕ}
 use lib.Dec.{leb, leb·zero}
 use lib.IntN.{pos}
 use borrow.Author.Needs.{needs}
-use Rattle.refusal.specs.Rules.{rule, first, firstFault, chained}
-use Rattle.refusal.specs.Answers.{gives}
-use Rattle.refusal.proofs.Tables.{judge-holds, by-table, pass-hold}
-use Rattle.calendar.specs.Dates.{dateRules, dateOf}
-use Rattle.calendar.proofs.Dates.{hold-accepted}
+use Rattle.refusal_rules.specs.Rules.{rule, first, firstFault, chained}
+use Rattle.refusal_rules.specs.Answers.{gives}
+use Rattle.refusal_rules.proofs.Tables.{judge-holds, by-table, pass-hold}
+use Rattle.calendar_rules.specs.Dates.{dateRules, dateOf}
+use Rattle.calendar_rules.proofs.Dates.{hold-accepted}
 use Rattle.calendar.proofs.date_of_number.Statement.{statement}
 use Rattle.calendar.proofs.date_of_number.Tie as tie
 

@@ -1,7 +1,7 @@
 -- `calendar::days_before` meets its contract: the table's rule, at the entry that is read.
 -- Assumes nothing.
 use borrow.Author.Needs.{needs}
-use Rattle.calendar.proofs.Months.{common-entry, leap-entry}
+use Rattle.calendar_rules.proofs.Months.{common-entry, leap-entry}
 use Rattle.calendar.proofs.days_before.Statement.{statement}
 use Rattle.calendar.proofs.days_before.Tie as tie
 

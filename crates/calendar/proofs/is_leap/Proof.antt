@@ -1,7 +1,7 @@
 -- `calendar::is_leap` meets its contract: the tests of the code are those of the definition.
 -- Assumes nothing.
 use borrow.Author.Needs.{needs}
-use Rattle.calendar.specs.Gregorian.{leap}
+use Rattle.calendar_rules.specs.Gregorian.{leap}
 use Rattle.calendar.proofs.is_leap.Statement.{statement}
 use Rattle.calendar.proofs.is_leap.Tie as tie
 

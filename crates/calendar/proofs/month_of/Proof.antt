@@ -4,8 +4,8 @@
 use mathlib.Core.Path.{_≡_, refl, sym, ap, _∙_}
 use Prim.Native.Nat.{_≤_}
 use native.Mathlib.Omega.{arith}
-use Rattle.calendar.specs.Gregorian.{lastBefore}
-use Rattle.calendar.proofs.Months.{last-here, last-back}
+use Rattle.calendar_rules.specs.Gregorian.{lastBefore}
+use Rattle.calendar_rules.proofs.Months.{last-here, last-back}
 use Rattle.calendar.proofs.month_of.Statement.{statement}
 use Rattle.calendar.proofs.month_of.Tie as tie
 

@@ -5,9 +5,9 @@ use Prim.Native.Nat.{ℕ}
 use lib.Dec.{leb, leb·zero}
 use lib.IntN.{pos}
 use borrow.Author.Needs.{needs}
-use Rattle.refusal.specs.Rules.{rule, first, firstFault, chained}
-use Rattle.refusal.proofs.Tables.{judge-holds, by-table}
-use Rattle.calendar.specs.Times.{timeRules, timeOf}
+use Rattle.refusal_rules.specs.Rules.{rule, first, firstFault, chained}
+use Rattle.refusal_rules.proofs.Tables.{judge-holds, by-table}
+use Rattle.calendar_rules.specs.Times.{timeRules, timeOf}
 use Rattle.calendar.proofs.time_of_number.Statement.{statement}
 use Rattle.calendar.proofs.time_of_number.Tie as tie
 

@@ -1,6 +1,6 @@
 -- `calendar::year_length` meets its contract: the months of either kind of year, added up.
 -- Assumes nothing.
-use Rattle.calendar.specs.Gregorian.{daysBefore}
+use Rattle.calendar_rules.specs.Gregorian.{daysBefore}
 use Rattle.calendar.proofs.year_length.Statement.{statement}
 use Rattle.calendar.proofs.year_length.Tie as tie
 

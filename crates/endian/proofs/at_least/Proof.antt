@@ -1,7 +1,7 @@
 -- `endian::at_least` meets its contract: the sign is tested where the bound holds.
 -- Assumes nothing.
 use borrow.Author.Tests.{le-leb, lt-leb}
-use Rattle.endian.specs.Words.{atLeast}
+use Rattle.endian_rules.specs.Words.{atLeast}
 use Rattle.endian.proofs.at_least.Statement.{statement}
 use Rattle.endian.proofs.at_least.Tie as tie
 

@@ -8,7 +8,7 @@ use mir.Facts.{sfits-toZ, toZ-ofZ}
 use Prim.Native.Nat.{_-_}
 use native.Mathlib.Omega.{arith}
 use borrow.Author.Needs.{needs}
-use Rattle.endian.proofs.Signs.{complement}
+use Rattle.endian_rules.proofs.Signs.{complement}
 use Rattle.endian.proofs.signed.Statement.{statement}
 use Rattle.endian.proofs.signed.Tie as tie
 

@@ -10,7 +10,7 @@ use lib.Signed.{nonNeg, mag}
 use mir.Syntax.{w32}
 use mir.Val.{Fits, SFits, toZ, ofZ}
 use mir.Facts.{toZ-ofZ, toZ-pos}
-use Rattle.endian.proofs.Signs.{NotNegative, not-negative, Negative, negative}
+use Rattle.endian_rules.proofs.Signs.{NotNegative, not-negative, Negative, negative}
 use Rattle.endian.proofs.unsigned.Statement.{statement}
 use Rattle.endian.proofs.unsigned.Tie as tie
 

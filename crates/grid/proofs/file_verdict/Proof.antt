@@ -5,11 +5,11 @@ use native.Mathlib.Omega.{arith}
 use lib.ListN.{length}
 use denote.Ref.{now}
 use borrow.Author.Needs.{needs}
-use Rattle.endian.specs.Words.{wordAt}
-use Rattle.refusal.specs.Rules.{first}
-use Rattle.refusal.specs.declared.Verdict.the-variants.{Pass, Fault}
+use Rattle.endian_rules.specs.Words.{wordAt}
+use Rattle.refusal_rules.specs.Rules.{first}
+use Rattle.refusal_rules.specs.declared.Verdict.the-variants.{Pass, Fault}
 use Rattle.grid_rules.specs.Rules.{nextFree}
-use Rattle.grid_rules.specs.Accepts.{Room}
+use Rattle.grid_rules.specs.Accepts.{GridRoom}
 use Rattle.grid_rules.proofs.Slots.{head-room}
 use Rattle.grid_rules.proofs.Acceptance.{file-split}
 use Rattle.grid.proofs.file_verdict.Statement.{statement}
@@ -28,7 +28,7 @@ enum-told c = search needs
 room : (c : tie.After-enum-told)
     → let a = c .before .before .before .before .args in
     let w = wordAt (a .order) (now (a .file)) in
-    Room (length (now (a .file))) (w 10) (nextFree w)
+    GridRoom (length (now (a .file))) (w 10) (nextFree w)
 room c = head-room _ _ (sym (c .before .before .head-verdict .ensures) ∙ c .enum-told .given .1)
 
 read-word-requires : tie.Need-read-word-requires

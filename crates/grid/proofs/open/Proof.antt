@@ -2,7 +2,7 @@
 -- Assumes nothing.
 use mathlib.Core.Path.{sym, _∙_}
 use borrow.Author.Needs.{needs}
-use Rattle.refusal.specs.declared.Verdict.the-variants.{Pass, Fault}
+use Rattle.refusal_rules.specs.declared.Verdict.the-variants.{Pass, Fault}
 use Rattle.grid_rules.specs.Opening.{openGrid}
 use Rattle.grid_rules.proofs.Acceptance.{open-split}
 use Rattle.grid.proofs.open.Statement.{statement}

@@ -6,7 +6,7 @@ use Prim.Native.Nat.{_-_, _≤_}
 use native.Mathlib.Numerals.{add-one}
 use native.Mathlib.Omega.{arith}
 use denote.Ref.{now}
-use Rattle.endian.specs.Words.{wordAt}
+use Rattle.endian_rules.specs.Words.{wordAt}
 use Rattle.grid_rules.specs.Rules.{shares}
 use Rattle.grid_rules.proofs.Slots.{each-passes, shares-at}
 use Rattle.grid.proofs.shared.Statement.{statement}

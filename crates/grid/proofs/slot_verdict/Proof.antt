@@ -5,11 +5,11 @@ use mathlib.Core.Path.{sym, ap, _∙_}
 use native.Mathlib.Omega.{arith}
 use denote.Ref.{now}
 use borrow.Author.Needs.{needs}
-use Rattle.endian.specs.Words.{wordAt}
-use Rattle.refusal.specs.Rules.{first, firstFault}
-use Rattle.refusal.specs.declared.Verdict.the-variants.{Pass, Fault}
+use Rattle.endian_rules.specs.Words.{wordAt}
+use Rattle.refusal_rules.specs.Rules.{first, firstFault}
+use Rattle.refusal_rules.specs.declared.Verdict.the-variants.{Pass, Fault}
 use Rattle.grid_rules.specs.Rules.{overlapRule}
-use Rattle.grid_rules.specs.Accepts.{Full}
+use Rattle.grid_rules.specs.Accepts.{FullSlot}
 use Rattle.grid_rules.proofs.Slots.{own-end, empty-slot, full-verdict}
 use Rattle.grid.proofs.slot_verdict.Statement.{statement}
 use Rattle.grid.proofs.slot_verdict.Tie as tie
@@ -25,7 +25,7 @@ unfolding firstFault
 returns c = sym (ap firstFault (empty-slot _ _ _ _ (sym (c .before .read-word .ensures) ∙ c .if1 .taken)))
 
 -- the slot is not empty
-full : (c : tie.Else1) → let a = c .before .before .before .args in Full (wordAt (a .order) (now (a .file))) (a .k)
+full : (c : tie.Else1) → let a = c .before .before .before .args in FullSlot (wordAt (a .order) (now (a .file))) (a .k)
 full c e = c .if1 .left (c .before .read-word .ensures ∙ e)
 
 own-verdict-requires : tie.Need-own-verdict-requires

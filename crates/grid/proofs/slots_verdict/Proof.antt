@@ -6,10 +6,10 @@ use native.Mathlib.Numerals.{add-one}
 use native.Mathlib.Omega.{arith}
 use denote.Ref.{now}
 use borrow.Author.Needs.{needs}
-use Rattle.endian.specs.Words.{wordAt}
-use Rattle.refusal.specs.Rules.{firstFault}
-use Rattle.refusal.specs.declared.Verdict.the-variants.{Pass}
-use Rattle.refusal.proofs.Tables.{pass-both}
+use Rattle.endian_rules.specs.Words.{wordAt}
+use Rattle.refusal_rules.specs.Rules.{firstFault}
+use Rattle.refusal_rules.specs.declared.Verdict.the-variants.{Pass}
+use Rattle.refusal_rules.proofs.Tables.{pass-both}
 use Rattle.grid_rules.specs.Rules.{slotsRules}
 use Rattle.grid_rules.proofs.Slots.{slots-more, fault-at}
 use Rattle.grid.proofs.slots_verdict.Statement.{statement}

@@ -4,7 +4,7 @@ use mathlib.Core.Path.{_≡_, ap, ap₂, _∙_}
 use mir.Syntax.{w32}
 use mir.Val.{toZ, ofZ}
 use denote.Ref.{now}
-use Rattle.store_plans.specs.Stores.{storePoint}
+use Rattle.store_rules.specs.Stores.{storePoint}
 use borrow.Author.Needs.{needs}
 use Rattle.grid_correction.proofs.correct_point.Statement.{statement}
 use Rattle.grid_correction.proofs.correct_point.Tie as tie

@@ -5,9 +5,9 @@ use mir.Syntax.{w32}
 use mir.Val.{toZ, ofZ}
 use denote.Ref.{now}
 use borrow.Author.Needs.{needs}
-use Rattle.plan.specs.Series.{call, done}
-use Rattle.plan.proofs.Series.{run-is}
-use Rattle.store_plans.specs.Stores.{storesIn, storePoint}
+use Rattle.store_theory.specs.Series.{call, done}
+use Rattle.store_theory.proofs.Series.{run-is}
+use Rattle.store_rules.specs.Stores.{storesIn, storePoint}
 use Rattle.grid_correction.proofs.correct_two.Statement.{statement}
 use Rattle.grid_correction.proofs.correct_two.Tie as tie
 

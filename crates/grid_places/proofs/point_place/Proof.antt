@@ -3,12 +3,12 @@
 use mathlib.Core.Path.{_≡_, sym, ap, _∙_}
 use Prim.Native.Nat.{ℕ}
 use native.Mathlib.Omega.{arith}
-use Rattle.refusal.specs.Answers.{gives, wordPlace}
-use Rattle.refusal.proofs.Tables.{pass-hold}
-use Rattle.grid.specs.Points.{pointWord}
-use Rattle.grid_places.specs.Places.{pointPlace}
-use Rattle.grid_places.proofs.Sizes.{points-most}
-use Rattle.grid_places.proofs.Tables.{points-hold}
+use Rattle.refusal_rules.specs.Answers.{gives, wordPlace}
+use Rattle.refusal_rules.proofs.Tables.{pass-hold}
+use Rattle.grid_rules.specs.Points.{pointWord}
+use Rattle.grid_rules.specs.Places.{pointPlace}
+use Rattle.grid_rules.proofs.Sizes.{points-most}
+use Rattle.grid_rules.proofs.Tables.{points-hold}
 use borrow.Author.Needs.{needs}
 use Rattle.grid_places.proofs.point_place.Statement.{statement}
 use Rattle.grid_places.proofs.point_place.Tie as tie

@@ -1,9 +1,9 @@
 -- `grid_places::point_verdict` meets its contract: the chain of checks is the table of rules.
 -- Assumes nothing.
-use Rattle.refusal.specs.Rules.{chained}
-use Rattle.refusal.proofs.Tables.{by-table}
-use Rattle.grid_places.specs.Bounds.{gridBounded}
-use Rattle.grid_places.specs.Places.{pointRules}
+use Rattle.refusal_rules.specs.Rules.{chained}
+use Rattle.refusal_rules.proofs.Tables.{by-table}
+use Rattle.grid_rules.specs.Bounds.{gridBounded}
+use Rattle.grid_rules.specs.Places.{pointRules}
 use borrow.Author.Needs.{needs}
 use Rattle.grid_places.proofs.point_verdict.Statement.{statement}
 use Rattle.grid_places.proofs.point_verdict.Tie as tie

@@ -1,7 +1,7 @@
 -- `grid_places::point_word` meets its contract: within bounds the product fits.
 -- Assumes nothing.
 use native.Mathlib.Omega.{arith}
-use Rattle.grid_places.proofs.Sizes.{points-most}
+use Rattle.grid_rules.proofs.Sizes.{points-most}
 use borrow.Author.Needs.{needs}
 use Rattle.grid_places.proofs.point_word.Statement.{statement}
 use Rattle.grid_places.proofs.point_word.Tie as tie

@@ -1,5 +1,5 @@
--- `grid_updates::add` meets its contract: it calls `grid_writes::plan_add`, to which it lends the file as `&`; `extent_tables::search`, to which it lends the table as
--- `&mut` and the file as `&`; `grid_writes::add_at`, to which it lends the file as `&mut`; and `extent_tables::fill`, which is lent what `search` is. First the code,
+-- `grid_updates::add` meets its contract: it calls `grid_update_steps::plan_add`, to which it lends the file as `&`; `extent_table_steps::search`, to which it lends the table as
+-- `&mut` and the file as `&`; `grid_update_steps::add_at`, to which it lends the file as `&mut`; and `extent_table_steps::fill`, which is lent what `search` is. First the code,
 -- which makes these calls; then what comes of the calls, with what the function holds.
 -- Assumes nothing.
 use mathlib.Core.Path.{_≡_, refl, sym, ap, subst}
@@ -38,38 +38,38 @@ use denote.Triple.Statement.{Contract, Triple}
 use denote.Triple.Entry.{Args, Vals, onEntry}
 use denote.Triple.Table.{cited}
 use denote.Triple.Walked.{says, ends-at}
-use Rattle.endian.specs.declared.Order.{Order}
-use Rattle.endian.proofs.Order as O
-use Rattle.extents.specs.Steps.{runsOver, searchedOver}
-use Rattle.extents.specs.declared.Extent.{Extent}
-use Rattle.extents.proofs.Extent as X
-use Rattle.extent_tables.proofs.Extents.{value, tells, lawful, makes, told, order-value, makes-order, an-order, an-extent}
-use Rattle.extent_tables.proofs.fill.Met as fill-met
-use Rattle.extent_tables.proofs.fill.Symbol as fill-def
-use Rattle.extent_tables.proofs.fill.Symbol.{name as #fill}
-use Rattle.extent_tables.proofs.search as search
-use Rattle.extent_tables.proofs.search.Met as search-met
-use Rattle.extent_tables.proofs.search.Symbol as search-def
-use Rattle.extent_tables.proofs.search.Symbol.{name as #search}
-use Rattle.grid_changes.specs.declared.AddAnswer.{AddAnswer}
-use Rattle.grid_changes.proofs.AddAnswer as S
-use Rattle.grid_changes.proofs.AddAnswer.Laws as S′
-use Rattle.grid_writes.specs.Writes.{additionSays, addPlan, addStep}
-use Rattle.grid_writes.specs.declared.AddPlan.{AddPlan}
-use Rattle.grid_writes.specs.declared.Addition.{Addition}
-use Rattle.grid_writes.proofs.Calls.{plan-may-fill, plan-ready, add-may-fill, add-done}
-use Rattle.grid_writes.proofs.AddPlan as P
-use Rattle.grid_writes.proofs.AddPlan.Laws as P′
-use Rattle.grid_writes.proofs.Addition as D
-use Rattle.grid_writes.proofs.Addition.Laws as D′
-use Rattle.grid_writes.proofs.add_at as adds
-use Rattle.grid_writes.proofs.add_at.Met as adds-met
-use Rattle.grid_writes.proofs.add_at.Symbol as adds-def
-use Rattle.grid_writes.proofs.add_at.Symbol.{name as #adds}
-use Rattle.grid_writes.proofs.plan_add as plans
-use Rattle.grid_writes.proofs.plan_add.Met as plans-met
-use Rattle.grid_writes.proofs.plan_add.Symbol as plans-def
-use Rattle.grid_writes.proofs.plan_add.Symbol.{name as #plans}
+use Rattle.endian_rules.specs.declared.Order.{Order}
+use Rattle.endian_rules.proofs.Order as O
+use Rattle.extent_rules.specs.Steps.{runsOver, searchedOver}
+use Rattle.extent_rules.specs.declared.Extent.{Extent}
+use Rattle.extent_rules.proofs.Extent as X
+use Rattle.extent_table_steps.proofs.Extents.{value, tells, lawful, makes, told, order-value, makes-order, an-order, an-extent}
+use Rattle.extent_table_steps.proofs.fill.Met as fill-met
+use Rattle.extent_table_steps.proofs.fill.Symbol as fill-def
+use Rattle.extent_table_steps.proofs.fill.Symbol.{name as #fill}
+use Rattle.extent_table_steps.proofs.search as search
+use Rattle.extent_table_steps.proofs.search.Met as search-met
+use Rattle.extent_table_steps.proofs.search.Symbol as search-def
+use Rattle.extent_table_steps.proofs.search.Symbol.{name as #search}
+use Rattle.grid_update_rules.specs.declared.AddAnswer.{AddAnswer}
+use Rattle.grid_update_rules.proofs.AddAnswer as S
+use Rattle.grid_update_rules.proofs.AddAnswer.Laws as S′
+use Rattle.grid_update_rules.specs.Writes.{additionSays, addPlan, addStep}
+use Rattle.grid_update_rules.specs.declared.AddPlan.{AddPlan}
+use Rattle.grid_update_rules.specs.declared.AdditionStep.{AdditionStep}
+use Rattle.grid_update_rules.proofs.Calls.{plan-may-fill, plan-ready, add-may-fill, add-done}
+use Rattle.grid_update_rules.proofs.AddPlan as P
+use Rattle.grid_update_rules.proofs.AddPlan.Laws as P′
+use Rattle.grid_update_rules.proofs.AdditionStep as D
+use Rattle.grid_update_rules.proofs.AdditionStep.Laws as D′
+use Rattle.grid_update_steps.proofs.add_at as adds
+use Rattle.grid_update_steps.proofs.add_at.Met as adds-met
+use Rattle.grid_update_steps.proofs.add_at.Symbol as adds-def
+use Rattle.grid_update_steps.proofs.add_at.Symbol.{name as #adds}
+use Rattle.grid_update_steps.proofs.plan_add as plans
+use Rattle.grid_update_steps.proofs.plan_add.Met as plans-met
+use Rattle.grid_update_steps.proofs.plan_add.Symbol as plans-def
+use Rattle.grid_update_steps.proofs.plan_add.Symbol.{name as #plans}
 use Rattle.walks.proofs.Calls.{at-value, Yields, yields, calls-into}
 use Rattle.walks.proofs.Contracts.{Contracted}
 use Rattle.walks.proofs.Held.{Holds, counts}
@@ -88,7 +88,7 @@ use Rattle.grid_updates.proofs.add.Statement.{statement}
 abbrev plan-value : AddPlan → Val
 plan-value = LL.val P.the-type P′.the-laws
 
-abbrev addition : Addition → Val
+abbrev addition : AdditionStep → Val
 addition = LL.val D.the-type D′.the-laws
 
 abbrev answer : AddAnswer → Val
@@ -104,7 +104,7 @@ plan-sizes p w is =
     let parts = LL.owed P.the-type P′.the-laws p (plan-value p ∷ []) (plan-is p w is) in
     (parts .1 .1 .1 .0, parts .1 .1 .0)
 
-parts : (d : Addition) (w : Val) → Is D.the-row d (w ∷ [])
+parts : (d : AdditionStep) (w : Val) → Is D.the-row d (w ∷ [])
     → Is S.the-row (d .answer) (answer (d .answer) ∷ []) × (Is usize (d .count) (vint w64 (d .count) ∷ []) × Unit {0})
 parts d w is = LL.owed D.the-type D′.the-laws d (addition d ∷ []) (at-value D.the-row (LL.vals D.the-type D′.the-laws) (LL.tells D.the-type D′.the-laws) d (w ∷ []) is)
 
@@ -175,7 +175,7 @@ module _ (κs : Lfts 4) (a : Args self.signature κs) where
 
   -- ---- the calls that the code makes, where Z is what is wanted of the function's answer
   module _ {M : Type 1} (𝓤 : URA M) (H : Heap 𝓤) (C : Calls 𝓤 H) (Z : Val → SProp 𝓤) where
-    abbrev Fills : Addition → SProp 𝓤
+    abbrev Fills : AdditionStep → SProp 𝓤
     Fills d = C #fill (tv ∷ fv ∷ order-value order ∷ vint w64 (d .count) ∷ []) (Yields 𝓤 H Nothing (λ _. Z (answer (d .answer))))
 
     abbrev Adds : AddPlan → Extent → SProp 𝓤
@@ -278,7 +278,7 @@ module _ (κs : Lfts 4) (a : Args self.signature κs) where
     abbrev Found : AddPlan → Extent → List Extent → Type 0
     Found p e t = (e, t) ≡ searchedOver order (now file) (p .count) (p .need) (now table)
 
-    abbrev Said : Addition → List ℕ → Type 0
+    abbrev Said : AdditionStep → List ℕ → Type 0
     Said d g = (additionSays d, g) ≡ addStep order (now file) (now header) in-rows columns (now values) size
 
     planned : Triple 𝓤 (C #plans) (Planning 𝓤 H A mem runs) → ent 𝓤 (sem 𝓤 H A (File (now file)))
@@ -328,7 +328,7 @@ module _ (κs : Lfts 4) (a : Args self.signature κs) where
         (ap (λ (z : Extent × List Extent). z .0) eq-t))) Said (λ ν δ d z. id⊢ 𝓤 _)
 
     -- at the end: the answer of d, the file g, and the table t′, which was t after the search
-    exits : (p : AddPlan) (d : Addition) (w : Val) (g : List ℕ) (t t′ : List Extent) → Is D.the-row d (w ∷ []) → Planned p
+    exits : (p : AddPlan) (d : AdditionStep) (w : Val) (g : List ℕ) (t t′ : List Extent) → Is D.the-row d (w ∷ []) → Planned p
         → t ≡ runsOver order (now file) (p .count) (now table) → Said d g → t′ ≡ runsOver order g (d .count) t
         → ent 𝓤 (⋆ 𝓤 H A (‵ (Table t′) ∷ ‵ (File g) ∷ Tokens ∷ [])) (Post (answer (d .answer)))
     exits p d w g t t′ is eq-p eq-t eq filled-is =
@@ -388,8 +388,8 @@ add-spec 𝓤 H 𝓜 𝓖 𝓡 =
     let fm = fmOf 𝓤 H (ofModel 𝓤 H 𝓜) (tablesOf 𝓤 H 𝓜 (tables 𝓤 H 𝓜 𝓡 code.env)) in
     proved params (plain (λ _. S.the-row)) 𝓤 H 𝓜 𝓖 𝓡 code.env (self.clauses 𝓤 H A (𝓜 .mem) (𝓡 .run)) key.name code.function (code.unfolded 𝓤 H 𝓜 𝓡)
     (λ κs qs a g are. via 𝓤 _ (fst∗ 𝓤 _ (emp 𝓤)) (via 𝓤 _ (runs-through κs a 𝓤 H A W (𝓜 .mem) (𝓡 .run) qs are C fm
-    (cited 𝓤 H (Planning 𝓤 H A (𝓜 .mem) (𝓡 .run)) 𝓜 𝓡 code.env #plans plans-def.routine code.calls-grid-writes·plan-add (plans-met.met 𝓤 H 𝓜 𝓖 𝓡))
-    (cited 𝓤 H (Searching 𝓤 H A (𝓜 .mem) (𝓡 .run)) 𝓜 𝓡 code.env #search search-def.routine code.calls-extent-tables·search (search-met.met 𝓤 H 𝓜 𝓖 𝓡))
-    (cited 𝓤 H (Adding 𝓤 H A (𝓜 .mem) (𝓡 .run)) 𝓜 𝓡 code.env #adds adds-def.routine code.calls-grid-writes·add-at (adds-met.met 𝓤 H 𝓜 𝓖 𝓡))
-    (cited 𝓤 H (Filling 𝓤 H A (𝓜 .mem) (𝓡 .run)) 𝓜 𝓡 code.env #fill fill-def.routine code.calls-extent-tables·fill (fill-met.met 𝓤 H 𝓜 𝓖 𝓡)))
+    (cited 𝓤 H (Planning 𝓤 H A (𝓜 .mem) (𝓡 .run)) 𝓜 𝓡 code.env #plans plans-def.routine code.calls-grid-update-steps·plan-add (plans-met.met 𝓤 H 𝓜 𝓖 𝓡))
+    (cited 𝓤 H (Searching 𝓤 H A (𝓜 .mem) (𝓡 .run)) 𝓜 𝓡 code.env #search search-def.routine code.calls-extent-table-steps·search (search-met.met 𝓤 H 𝓜 𝓖 𝓡))
+    (cited 𝓤 H (Adding 𝓤 H A (𝓜 .mem) (𝓡 .run)) 𝓜 𝓡 code.env #adds adds-def.routine code.calls-grid-update-steps·add-at (adds-met.met 𝓤 H 𝓜 𝓖 𝓡))
+    (cited 𝓤 H (Filling 𝓤 H A (𝓜 .mem) (𝓡 .run)) 𝓜 𝓡 code.env #fill fill-def.routine code.calls-extent-table-steps·fill (fill-met.met 𝓤 H 𝓜 𝓖 𝓡)))
     (walk κs a 𝓤 H A W C (tables 𝓤 H 𝓜 𝓡 code.env .Λ) fm are _)))

@@ -1,4 +1,4 @@
--- `grid_updates::delete` meets its contract: it calls `grid_writes::delete_in`, to which it lends the file as `&mut`, and then `extent_tables::fill`, to which it lends
+-- `grid_updates::delete` meets its contract: it calls `grid_update_steps::delete_in`, to which it lends the file as `&mut`, and then `extent_table_steps::fill`, to which it lends
 -- the table as `&mut` and the file as `&`. First the code, which makes these calls; then what comes of the calls, with what the function holds.
 -- Assumes nothing.
 use mathlib.Core.Path.{_≡_, refl}
@@ -36,26 +36,26 @@ use denote.Triple.Statement.{Contract, Triple}
 use denote.Triple.Entry.{Args, Vals, onEntry}
 use denote.Triple.Table.{cited}
 use denote.Triple.Walked.{says, ends-at}
-use Rattle.endian.specs.declared.Order.{Order}
-use Rattle.refusal.specs.declared.SizeAnswer.{SizeAnswer}
-use Rattle.refusal.proofs.SizeAnswer as S
-use Rattle.refusal.proofs.SizeAnswer.Laws as S′
-use Rattle.extents.specs.Steps.{runsOver}
-use Rattle.extents.specs.declared.Extent.{Extent}
-use Rattle.extents.proofs.Extent as X
-use Rattle.extent_tables.proofs.Extents.{order-value, an-order}
-use Rattle.extent_tables.proofs.fill.Met as fill-met
-use Rattle.extent_tables.proofs.fill.Symbol as fill-def
-use Rattle.extent_tables.proofs.fill.Symbol.{name as #fill}
-use Rattle.grid_writes.specs.Writes.{deletionSays, deleteStep}
-use Rattle.grid_writes.specs.declared.Deletion.{Deletion}
-use Rattle.grid_writes.proofs.Calls.{delete-may-fill, delete-done}
-use Rattle.grid_writes.proofs.Deletion as D
-use Rattle.grid_writes.proofs.Deletion.Laws as D′
-use Rattle.grid_writes.proofs.delete_in as deletes
-use Rattle.grid_writes.proofs.delete_in.Met as deletes-met
-use Rattle.grid_writes.proofs.delete_in.Symbol as deletes-def
-use Rattle.grid_writes.proofs.delete_in.Symbol.{name as #deletes}
+use Rattle.endian_rules.specs.declared.Order.{Order}
+use Rattle.refusal_rules.specs.declared.SizeAnswer.{SizeAnswer}
+use Rattle.refusal_rules.proofs.SizeAnswer as S
+use Rattle.refusal_rules.proofs.SizeAnswer.Laws as S′
+use Rattle.extent_rules.specs.Steps.{runsOver}
+use Rattle.extent_rules.specs.declared.Extent.{Extent}
+use Rattle.extent_rules.proofs.Extent as X
+use Rattle.extent_table_steps.proofs.Extents.{order-value, an-order}
+use Rattle.extent_table_steps.proofs.fill.Met as fill-met
+use Rattle.extent_table_steps.proofs.fill.Symbol as fill-def
+use Rattle.extent_table_steps.proofs.fill.Symbol.{name as #fill}
+use Rattle.grid_update_rules.specs.Writes.{deletionSays, deleteStep}
+use Rattle.grid_update_rules.specs.declared.DeletionStep.{DeletionStep}
+use Rattle.grid_update_rules.proofs.Calls.{delete-may-fill, delete-done}
+use Rattle.grid_update_rules.proofs.DeletionStep as D
+use Rattle.grid_update_rules.proofs.DeletionStep.Laws as D′
+use Rattle.grid_update_steps.proofs.delete_in as deletes
+use Rattle.grid_update_steps.proofs.delete_in.Met as deletes-met
+use Rattle.grid_update_steps.proofs.delete_in.Symbol as deletes-def
+use Rattle.grid_update_steps.proofs.delete_in.Symbol.{name as #deletes}
 use Rattle.walks.proofs.Calls.{at-value, Yields, yields, calls-into}
 use Rattle.walks.proofs.Contracts.{Contracted}
 use Rattle.walks.proofs.Held.{Holds, counts}
@@ -71,14 +71,14 @@ use Rattle.grid_updates.proofs.delete.Key as key
 use Rattle.grid_updates.proofs.delete.Statement.{statement}
 
 -- the machine values of a deletion and of an answer
-abbrev deletion : Deletion → Val
+abbrev deletion : DeletionStep → Val
 deletion = LL.val D.the-type D′.the-laws
 
 abbrev answer : SizeAnswer → Val
 answer = EL.val S.the-type S′.the-laws
 
 -- the relations of a deletion's parts, from the deletion's own
-parts : (d : Deletion) (w : Val) → Is D.the-row d (w ∷ [])
+parts : (d : DeletionStep) (w : Val) → Is D.the-row d (w ∷ [])
     → Is S.the-row (d .answer) (answer (d .answer) ∷ []) × (Is usize (d .count) (vint w64 (d .count) ∷ []) × Unit {0})
 parts d w is = LL.owed D.the-type D′.the-laws d (deletion d ∷ []) (at-value D.the-row (LL.vals D.the-type D′.the-laws) (LL.tells D.the-type D′.the-laws) d (w ∷ []) is)
 
@@ -118,7 +118,7 @@ module _ (κs : Lfts 2) (a : Args self.signature κs) where
 
   -- ---- the calls that the code makes, where Z is what is wanted of the function's answer
   module _ {M : Type 1} (𝓤 : URA M) (H : Heap 𝓤) (C : Calls 𝓤 H) (Z : Val → SProp 𝓤) where
-    abbrev Fills : Deletion → SProp 𝓤
+    abbrev Fills : DeletionStep → SProp 𝓤
     Fills d = C #fill (tv ∷ fv ∷ order-value order ∷ vint w64 (d .count) ∷ []) (Yields 𝓤 H Nothing (λ _. Z (answer (d .answer))))
 
     abbrev Deletes : SProp 𝓤
@@ -158,7 +158,7 @@ module _ (κs : Lfts 2) (a : Args self.signature κs) where
     Post = Done params (plain (λ _. S.the-row)) 𝓤 H A (self.clauses 𝓤 H A mem runs) κs qs a tt
 
     -- what `delete_in` says of its result d and of the file g that it leaves
-    abbrev Said : Deletion → List ℕ → Type 0
+    abbrev Said : DeletionStep → List ℕ → Type 0
     Said d g = (deletionSays d, g) ≡ deleteStep order (now file) grid size
 
     deleted : Triple 𝓤 (C #deletes) (Deleting 𝓤 H A mem runs) → ent 𝓤 (⋆ 𝓤 H A (‵ (File (now file)) ∷ ‵ ftrue ∷ ‵ ftrue ∷ []))
@@ -171,7 +171,7 @@ module _ (κs : Lfts 2) (a : Args self.signature κs) where
         (are .1 .0, (are .1 .1 .0, ((refl, are .1 .1 .1 .0 .0 .1 .0), tt)))) (λ ν δ. tt) (λ ν δ. id⊢ 𝓤 _) Said (λ ν δ d e. id⊢ 𝓤 _)
 
     -- at the end: the answer of d, the file g, and the table t
-    exits : (d : Deletion) (w : Val) (g : List ℕ) (t : List Extent) → Is D.the-row d (w ∷ []) → Said d g → t ≡ runsOver order g (d .count) (now table)
+    exits : (d : DeletionStep) (w : Val) (g : List ℕ) (t : List Extent) → Is D.the-row d (w ∷ []) → Said d g → t ≡ runsOver order g (d .count) (now table)
         → ent 𝓤 (⋆ 𝓤 H A (‵ (Table t) ∷ ‵ (File g) ∷ [])) (Post (answer (d .answer)))
     exits d w g t is eq filled-is =
         qed W (‵ (Table t) ∷ ‵ (File g) ∷ []) ∵ counts X.the-row (named 1) (κs .1 .0) (qs .1 .0) table tv ! t (are .1 .1 .1 .0)
@@ -210,6 +210,6 @@ delete-spec 𝓤 H 𝓜 𝓖 𝓡 =
     let fm = fmOf 𝓤 H (ofModel 𝓤 H 𝓜) (tablesOf 𝓤 H 𝓜 (tables 𝓤 H 𝓜 𝓡 code.env)) in
     proved params (plain (λ _. S.the-row)) 𝓤 H 𝓜 𝓖 𝓡 code.env (self.clauses 𝓤 H A (𝓜 .mem) (𝓡 .run)) key.name code.function (code.unfolded 𝓤 H 𝓜 𝓡)
     (λ κs qs a g are. via 𝓤 _ (fst∗ 𝓤 _ (emp 𝓤)) (via 𝓤 _ (runs-through κs a 𝓤 H A W (𝓜 .mem) (𝓡 .run) qs are C fm
-    (cited 𝓤 H (Deleting 𝓤 H A (𝓜 .mem) (𝓡 .run)) 𝓜 𝓡 code.env #deletes deletes-def.routine code.calls-grid-writes·delete-in (deletes-met.met 𝓤 H 𝓜 𝓖 𝓡))
-    (cited 𝓤 H (Filling 𝓤 H A (𝓜 .mem) (𝓡 .run)) 𝓜 𝓡 code.env #fill fill-def.routine code.calls-extent-tables·fill (fill-met.met 𝓤 H 𝓜 𝓖 𝓡)))
+    (cited 𝓤 H (Deleting 𝓤 H A (𝓜 .mem) (𝓡 .run)) 𝓜 𝓡 code.env #deletes deletes-def.routine code.calls-grid-update-steps·delete-in (deletes-met.met 𝓤 H 𝓜 𝓖 𝓡))
+    (cited 𝓤 H (Filling 𝓤 H A (𝓜 .mem) (𝓡 .run)) 𝓜 𝓡 code.env #fill fill-def.routine code.calls-extent-table-steps·fill (fill-met.met 𝓤 H 𝓜 𝓖 𝓡)))
     (walk κs a 𝓤 H A W C (tables 𝓤 H 𝓜 𝓡 code.env .Λ) fm are _)))

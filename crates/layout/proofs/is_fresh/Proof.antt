@@ -3,10 +3,10 @@
 use mathlib.Core.Path.{ap, _∙_}
 use borrow.Author.Needs.{needs}
 use denote.Ref.{now}
-use Rattle.refusal.specs.Answers.{mapped}
-use Rattle.layout.specs.Layouts.{openAs, givesThat, isFresh}
-use Rattle.layout.specs.declared.Layout.the-variants.{Area, Grid, Md}
-use Rattle.layout.proofs.Freshness.{fresh-told}
+use Rattle.refusal_rules.specs.Answers.{mapped}
+use Rattle.layout_rules.specs.Layouts.{openAs, givesThat, isFresh}
+use Rattle.layout_rules.specs.declared.Layout.the-variants.{Area, Grid, Md}
+use Rattle.layout_rules.proofs.Freshness.{fresh-told}
 use Rattle.layout.proofs.is_fresh.Statement.{statement}
 use Rattle.layout.proofs.is_fresh.Tie as tie
 

@@ -2,9 +2,9 @@
 -- Assumes nothing.
 use mathlib.Core.Path.{sym, ap, _∙_}
 use borrow.Author.Needs.{needs}
-use Rattle.refusal.specs.Answers.{mapped}
-use Rattle.area.specs.Opening.{areaSays}
-use Rattle.layout.specs.declared.Layout.the-variants.{Area}
+use Rattle.refusal_rules.specs.Answers.{mapped}
+use Rattle.area_rules.specs.Opening.{areaSays}
+use Rattle.layout_rules.specs.declared.Layout.the-variants.{Area}
 use Rattle.layout.proofs.open_area.Statement.{statement}
 use Rattle.layout.proofs.open_area.Tie as tie
 

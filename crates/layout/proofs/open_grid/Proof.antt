@@ -2,9 +2,9 @@
 -- Assumes nothing.
 use mathlib.Core.Path.{sym, ap, _∙_}
 use borrow.Author.Needs.{needs}
-use Rattle.refusal.specs.Answers.{mapped}
+use Rattle.refusal_rules.specs.Answers.{mapped}
 use Rattle.grid_rules.specs.Opening.{gridSays}
-use Rattle.layout.specs.declared.Layout.the-variants.{Grid}
+use Rattle.layout_rules.specs.declared.Layout.the-variants.{Grid}
 use Rattle.layout.proofs.open_grid.Statement.{statement}
 use Rattle.layout.proofs.open_grid.Tie as tie
 

@@ -2,9 +2,9 @@
 -- Assumes nothing.
 use mathlib.Core.Path.{sym, ap, _∙_}
 use borrow.Author.Needs.{needs}
-use Rattle.refusal.specs.Answers.{mapped}
-use Rattle.md.specs.Opening.{mdSays}
-use Rattle.layout.specs.declared.Layout.the-variants.{Md}
+use Rattle.refusal_rules.specs.Answers.{mapped}
+use Rattle.md_rules.specs.Opening.{mdSays}
+use Rattle.layout_rules.specs.declared.Layout.the-variants.{Md}
 use Rattle.layout.proofs.open_md.Statement.{statement}
 use Rattle.layout.proofs.open_md.Tie as tie
 

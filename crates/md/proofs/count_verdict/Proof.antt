@@ -1,8 +1,8 @@
 -- `md::count_verdict` meets its contract: the chain of rules is the table.
 -- Assumes nothing.
-use Rattle.refusal.specs.Rules.{chained}
-use Rattle.refusal.proofs.Tables.{by-table}
-use Rattle.md.specs.Rules.{countRules}
+use Rattle.refusal_rules.specs.Rules.{chained}
+use Rattle.refusal_rules.proofs.Tables.{by-table}
+use Rattle.md_rules.specs.Rules.{mdCountRules}
 use borrow.Author.Needs.{needs}
 use Rattle.md.proofs.count_verdict.Statement.{statement}
 use Rattle.md.proofs.count_verdict.Tie as tie
@@ -26,7 +26,7 @@ count-requires-6 : tie.Need-count-requires-6
 count-requires-6 c κs = search needs
 
 returns : tie.Need-returns
-unfolding countRules chained
+unfolding mdCountRules chained
 returns c =
     by-table
     _

@@ -2,10 +2,10 @@
 -- Assumes nothing.
 use Prim.Native.Nat.{_*_, _≤_}
 use native.Mathlib.Omega.{arith}
-use Rattle.refusal.specs.Rules.{chained}
-use Rattle.refusal.proofs.Tables.{by-chain}
-use Rattle.md.specs.Rules.{endRules}
-use Rattle.md.proofs.Verdicts.{pass-counted, data-records, data-words}
+use Rattle.refusal_rules.specs.Rules.{chained}
+use Rattle.refusal_rules.proofs.Tables.{by-chain}
+use Rattle.md_rules.specs.Rules.{mdEndRules}
+use Rattle.md_rules.proofs.Verdicts.{pass-counted, data-records, data-words}
 use borrow.Author.Needs.{needs}
 use Rattle.md.proofs.end_verdict.Statement.{statement}
 use Rattle.md.proofs.end_verdict.Tie as tie
@@ -73,7 +73,7 @@ check-requires-2 : tie.Need-check-requires-2
 check-requires-2 c κs = search needs
 
 returns : tie.Need-returns
-unfolding endRules chained
+unfolding mdEndRules chained
 returns c =
     by-chain
     _

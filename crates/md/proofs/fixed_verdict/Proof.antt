@@ -1,8 +1,8 @@
 -- `md::fixed_verdict` meets its contract: the chain of rules is the table, after a verdict.
 -- Assumes nothing.
-use Rattle.refusal.specs.Rules.{chained}
-use Rattle.refusal.proofs.Tables.{by-chain}
-use Rattle.md.specs.Rules.{fixedRules}
+use Rattle.refusal_rules.specs.Rules.{chained}
+use Rattle.refusal_rules.proofs.Tables.{by-chain}
+use Rattle.md_rules.specs.Rules.{mdFixedRules}
 use borrow.Author.Needs.{needs}
 use Rattle.md.proofs.fixed_verdict.Statement.{statement}
 use Rattle.md.proofs.fixed_verdict.Tie as tie
@@ -20,7 +20,7 @@ equal-requires-4 : tie.Need-equal-requires-4
 equal-requires-4 c κs = search needs
 
 returns : tie.Need-returns
-unfolding fixedRules chained
+unfolding mdFixedRules chained
 returns c =
     by-chain
     _

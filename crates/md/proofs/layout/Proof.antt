@@ -1,6 +1,6 @@
 -- `md::layout` meets its contract: every field is the word that the definition has.
 -- Assumes nothing.
-use Rattle.md.specs.Opening.{layoutOf}
+use Rattle.md_rules.specs.Opening.{mdLayoutOf}
 use borrow.Author.Needs.{needs}
 use Rattle.md.proofs.layout.Statement.{statement}
 use Rattle.md.proofs.layout.Tie as tie
@@ -30,7 +30,7 @@ read-word-requires-8 : tie.Need-read-word-requires-8
 read-word-requires-8 c κs = search needs
 
 returns : tie.Need-returns
-unfolding layoutOf
+unfolding mdLayoutOf
 returns c =
     rw (
       c .read-word8 .ensures,

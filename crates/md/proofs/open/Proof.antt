@@ -2,20 +2,20 @@
 -- Assumes nothing.
 use mathlib.Core.Path.{sym, ap, _∙_}
 use borrow.Author.Tests.{lt-leb}
-use Rattle.refusal.specs.Rules.{judge, first, firstFault}
-use Rattle.refusal.specs.Answers.{gives}
-use Rattle.md.specs.Rules.{mdRules}
-use Rattle.md.specs.Opening.{openWords, openMd}
+use Rattle.refusal_rules.specs.Rules.{judge, first, firstFault}
+use Rattle.refusal_rules.specs.Answers.{gives}
+use Rattle.md_rules.specs.Rules.{mdRules}
+use Rattle.md_rules.specs.Opening.{openMdWords, openMd}
 use borrow.Author.Needs.{needs}
 use Rattle.md.proofs.open.Statement.{statement}
 use Rattle.md.proofs.open.Tie as tie
 
 returns : tie.Need-returns
-unfolding openMd openWords mdRules firstFault first judge
+unfolding openMd openMdWords mdRules firstFault first judge
 returns c = rw (lt-leb _ _ (c .if1 .taken))
 
-word-verdict-requires : tie.Need-word-verdict-requires
-word-verdict-requires c κs = search needs
+md-verdict-requires : tie.Need-md-verdict-requires
+md-verdict-requires c κs = search needs
 
 enum-known-refusal : tie.Need-enum-known-refusal
 enum-known-refusal c = search needs
@@ -27,19 +27,19 @@ layout-requires : tie.Need-layout-requires
 layout-requires c κs = search needs
 
 returns-2 : tie.Need-returns-2
-unfolding openMd openWords
-returns-2 c = rw (sym (c .before .before .before .word-verdict .ensures) ∙ c .before .refusal .given .1)
+unfolding openMd openMdWords
+returns-2 c = rw (sym (c .before .before .before .md-verdict .ensures) ∙ c .before .refusal .given .1)
 
 returns-3 : tie.Need-returns-3
-unfolding openMd openWords
-returns-3 c = rw (sym (c .before .before .before .word-verdict .ensures) ∙ c .before .enum-told .given .1) (ap gives (c .layout .ensures))
+unfolding openMd openMdWords
+returns-3 c = rw (sym (c .before .before .before .md-verdict .ensures) ∙ c .before .enum-told .given .1) (ap gives (c .layout .ensures))
 
 pub open-spec : {M : Type 1} → statement M
 open-spec =
     tie.close
     (tie.spec
     returns
-    word-verdict-requires
+    md-verdict-requires
     enum-known-refusal
     enum-told
     layout-requires

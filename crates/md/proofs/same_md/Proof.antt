@@ -1,7 +1,7 @@
 -- `md::same_md` meets its contract: field by field, from the last to the first, it is the comparison of the two lists of numbers.
 -- Assumes nothing.
-use Rattle.refusal.specs.Tests.{sameNumbers}
-use Rattle.md.specs.Opening.{sameMd}
+use Rattle.refusal_rules.specs.Tests.{sameNumbers}
+use Rattle.md_rules.specs.Opening.{sameMd}
 use borrow.Author.Needs.{needs}
 use Rattle.md.proofs.same_md.Statement.{statement}
 use Rattle.md.proofs.same_md.Tie as tie

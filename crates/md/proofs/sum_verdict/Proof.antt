@@ -2,10 +2,10 @@
 -- Assumes nothing.
 use Prim.Native.Nat.{_*_, _≤_}
 use native.Mathlib.Omega.{arith}
-use Rattle.refusal.specs.Rules.{chained}
-use Rattle.refusal.proofs.Tables.{by-table}
-use Rattle.md.specs.Rules.{sumRules}
-use Rattle.md.proofs.Verdicts.{pass-counted, row-words, column-words}
+use Rattle.refusal_rules.specs.Rules.{chained}
+use Rattle.refusal_rules.proofs.Tables.{by-table}
+use Rattle.md_rules.specs.Rules.{mdSumRules}
+use Rattle.md_rules.proofs.Verdicts.{pass-counted, row-words, column-words}
 use borrow.Author.Needs.{needs}
 use Rattle.md.proofs.sum_verdict.Statement.{statement}
 use Rattle.md.proofs.sum_verdict.Tie as tie
@@ -107,7 +107,7 @@ equal-requires-6 : tie.Need-equal-requires-6
 equal-requires-6 c κs = omega (arith, c .before .before .before .before .before .before .before .before .before .before .before .before .pre)
 
 returns : tie.Need-returns
-unfolding sumRules chained
+unfolding mdSumRules chained
 returns c =
     by-table
     _

@@ -3,8 +3,8 @@
 use mathlib.Core.Path.{sym, _∙_}
 use Prim.Native.Nat.{_+_, _-_, _≤_}
 use native.Mathlib.Omega.{arith}
-use Rattle.md_keys.specs.Keys.{isNamed}
-use Rattle.md_keys.proofs.Names.{NoneBelow, none-more, name-found, name-none, name-other}
+use Rattle.md_part_rules.specs.Keys.{isNamed}
+use Rattle.md_part_rules.proofs.Names.{NoneBelow, none-more, name-found, name-none, name-other}
 use Rattle.md_keys.proofs.find_in.Statement.{statement}
 use Rattle.md_keys.proofs.find_in.Tie as tie
 

@@ -1,8 +1,8 @@
 -- `md_keys::find_key` meets its contract: a fresh MD layout is one of an accepted file, and a refusal is passed on.
 -- Assumes nothing.
 use mathlib.Core.Path.{sym, ap, _∙_}
-use Rattle.md.specs.Opening.{mdSays}
-use Rattle.layout.proofs.OneKind.{md-known}
+use Rattle.md_rules.specs.Opening.{mdSays}
+use Rattle.layout_rules.proofs.OneKind.{md-known}
 use borrow.Author.Needs.{needs}
 use Rattle.md_keys.proofs.find_key.Statement.{statement}
 use Rattle.md_keys.proofs.find_key.Tie as tie

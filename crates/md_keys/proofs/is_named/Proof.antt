@@ -2,7 +2,7 @@
 -- Assumes nothing.
 use native.Mathlib.Omega.{arith}
 use denote.Ref.{now}
-use Rattle.md_keys.proofs.Names.{four-same}
+use Rattle.md_part_rules.proofs.Names.{four-same}
 use borrow.Author.Needs.{needs}
 use Rattle.md_keys.proofs.is_named.Statement.{statement}
 use Rattle.md_keys.proofs.is_named.Tie as tie

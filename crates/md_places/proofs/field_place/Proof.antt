@@ -3,12 +3,12 @@
 use mathlib.Core.Path.{_≡_, sym, ap, _∙_}
 use Prim.Native.Nat.{ℕ}
 use native.Mathlib.Omega.{arith}
-use Rattle.refusal.specs.Answers.{gives, wordPlace}
-use Rattle.refusal.proofs.Tables.{pass-hold}
-use Rattle.md.specs.Fields.{fieldWord}
-use Rattle.md_places.specs.Places.{fieldPlace}
-use Rattle.md_places.proofs.Sizes.{field-most}
-use Rattle.md_places.proofs.Tables.{fields-hold}
+use Rattle.refusal_rules.specs.Answers.{gives, wordPlace}
+use Rattle.refusal_rules.proofs.Tables.{pass-hold}
+use Rattle.md_rules.specs.Fields.{fieldWord}
+use Rattle.md_rules.specs.Places.{fieldPlace}
+use Rattle.md_rules.proofs.Sizes.{field-most}
+use Rattle.md_rules.proofs.Tables.{fields-hold}
 use borrow.Author.Needs.{needs}
 use Rattle.md_places.proofs.field_place.Statement.{statement}
 use Rattle.md_places.proofs.field_place.Tie as tie

@@ -2,11 +2,11 @@
 -- Assumes nothing.
 use mathlib.Core.Path.{sym, _∙_}
 use mathlib.Core.List.{[], _∷_}
-use Rattle.refusal.specs.Rules.{rule, chained}
-use Rattle.refusal.specs.Tests.{within}
-use Rattle.refusal.proofs.Tables.{by-chain, firstFault-append}
-use Rattle.md.specs.Fields.{fieldsOf}
-use Rattle.md_places.specs.Places.{partRules, fieldRules}
+use Rattle.refusal_rules.specs.Rules.{rule, chained}
+use Rattle.refusal_rules.specs.Tests.{within}
+use Rattle.refusal_rules.proofs.Tables.{by-chain, firstFault-append}
+use Rattle.md_rules.specs.Fields.{fieldsOf}
+use Rattle.md_rules.specs.Places.{partRules, fieldRules}
 use borrow.Author.Needs.{needs}
 use Rattle.md_places.proofs.field_verdict.Statement.{statement}
 use Rattle.md_places.proofs.field_verdict.Tie as tie

@@ -3,8 +3,8 @@
 use mathlib.Core.Path.{_≡_, sym, ap, _∙_}
 use Prim.Native.Nat.{ℕ, _+_, _-_}
 use native.Mathlib.Omega.{arith}
-use Rattle.md_places.specs.Places.{partWord}
-use Rattle.md_places.proofs.Sizes.{part-most, field-in-part}
+use Rattle.md_rules.specs.Places.{partWord}
+use Rattle.md_rules.proofs.Sizes.{part-most, field-in-part}
 use borrow.Author.Needs.{needs}
 use Rattle.md_places.proofs.field_word.Statement.{statement}
 use Rattle.md_places.proofs.field_word.Tie as tie

@@ -1,7 +1,7 @@
 -- `md_places::fields_of` meets its contract: its tests are those of the definition.
 -- Assumes nothing.
 use borrow.Author.Tests.{eq-eqb, ne-eqb}
-use Rattle.md.specs.Fields.{fieldsOf}
+use Rattle.md_rules.specs.Fields.{fieldsOf}
 use Rattle.md_places.proofs.fields_of.Statement.{statement}
 use Rattle.md_places.proofs.fields_of.Tie as tie
 

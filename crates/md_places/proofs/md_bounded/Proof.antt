@@ -1,6 +1,6 @@
 -- `md_places::md_bounded` meets its contract: its tests are those of the definition.
 -- Assumes nothing.
-use Rattle.md_places.specs.Bounds.{mdBounded}
+use Rattle.md_rules.specs.Bounds.{mdBounded}
 use borrow.Author.Needs.{needs}
 use Rattle.md_places.proofs.md_bounded.Statement.{statement}
 use Rattle.md_places.proofs.md_bounded.Tie as tie

@@ -1,10 +1,10 @@
 -- `md_places::part_start` meets its contract: the verdict picks the answer.
 -- Assumes nothing.
 use mathlib.Core.Path.{sym, ap, _∙_}
-use Rattle.refusal.specs.Answers.{gives}
-use Rattle.refusal.proofs.Tables.{pass-hold}
-use Rattle.md_places.specs.Places.{partStartOf}
-use Rattle.md_places.proofs.Tables.{parts-hold}
+use Rattle.refusal_rules.specs.Answers.{gives}
+use Rattle.refusal_rules.proofs.Tables.{pass-hold}
+use Rattle.md_rules.specs.Places.{partStartOf}
+use Rattle.md_rules.proofs.Tables.{parts-hold}
 use borrow.Author.Needs.{needs}
 use Rattle.md_places.proofs.part_start.Statement.{statement}
 use Rattle.md_places.proofs.part_start.Tie as tie

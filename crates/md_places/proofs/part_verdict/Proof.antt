@@ -1,8 +1,8 @@
 -- `md_places::part_verdict` meets its contract: the chain of checks is the table of rules.
 -- Assumes nothing.
-use Rattle.refusal.specs.Rules.{chained}
-use Rattle.refusal.proofs.Tables.{by-table}
-use Rattle.md_places.specs.Places.{partRules}
+use Rattle.refusal_rules.specs.Rules.{chained}
+use Rattle.refusal_rules.proofs.Tables.{by-table}
+use Rattle.md_rules.specs.Places.{partRules}
 use borrow.Author.Needs.{needs}
 use Rattle.md_places.proofs.part_verdict.Statement.{statement}
 use Rattle.md_places.proofs.part_verdict.Tie as tie

@@ -2,8 +2,8 @@
 -- Assumes nothing.
 use native.Mathlib.Omega.{arith}
 use borrow.Author.Tests.{eq-eqb, ne-eqb}
-use Rattle.md.specs.Fields.{fieldWord}
-use Rattle.md_places.proofs.Sizes.{rows-most, columns-most, records-most, data-most}
+use Rattle.md_rules.specs.Fields.{fieldWord}
+use Rattle.md_rules.proofs.Sizes.{rows-most, columns-most, records-most, data-most}
 use borrow.Author.Needs.{needs}
 use Rattle.md_places.proofs.part_word.Statement.{statement}
 use Rattle.md_places.proofs.part_word.Tie as tie

@@ -1,4 +1,4 @@
--- `reader::block` meets its contract: it calls `area_parts::block_bytes` with the reader's file and layout, and hands back the answer.
+-- `reader::block` meets its contract: it calls `area_blocks::block_bytes` with the reader's file and layout, and hands back the answer.
 -- Assumes nothing.
 use mathlib.Core.Path.{refl}
 use mathlib.Core.List.{List, [], _∷_}
@@ -10,9 +10,9 @@ use contract.Running.{givenOf}
 use types.Kit.{Given, raw, _$_, _∵_, !, qed, done}
 use types.Run.{look, init, stop, from, of-opd, and-then, no-more, assigns, calls, land, returns}
 use sound.WpLaws.{FmC}
-use Rattle.area_parts.proofs.block_bytes as callee
-use Rattle.area_parts.proofs.block_bytes.Met as callee-met
-use Rattle.area_parts.proofs.block_bytes.Symbol as callee-def
+use Rattle.area_blocks.proofs.block_bytes as callee
+use Rattle.area_blocks.proofs.block_bytes.Met as callee-met
+use Rattle.area_blocks.proofs.block_bytes.Symbol as callee-def
 use Rattle.walks.proofs.Calls.{informs}
 use Rattle.walks.proofs.Known.{Known, passed-as}
 use Rattle.walks.proofs.Locals.{holding, starts, frees-all, at}
@@ -47,5 +47,5 @@ unfolding code.routine
 block-spec 𝓤 H 𝓜 𝓖 𝓡 =
     opened 𝓤 H 𝓜 𝓖 𝓡 beside answer code.env (callee.clauses 𝓤 H (𝓖 .A) (𝓜 .mem) (𝓡 .run)) (λ κs a.
     self.clauses 𝓤 H (𝓖 .A) (𝓜 .mem) (𝓡 .run) κs a .ensures) (λ κs a g x e. id⊢ 𝓤 _)
-    callee-def.name callee-def.routine code.calls-area-parts·block-bytes (callee-met.met 𝓤 H 𝓜 𝓖 𝓡)
+    callee-def.name callee-def.routine code.calls-area-blocks·block-bytes (callee-met.met 𝓤 H 𝓜 𝓖 𝓡)
     key.name code.function (code.unfolded 𝓤 H 𝓜 𝓡) (walk 𝓤 H (𝓖 .A) (givenOf 𝓤 H 𝓜 𝓖))

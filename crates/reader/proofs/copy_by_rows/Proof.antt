@@ -1,4 +1,4 @@
--- `reader::copy_by_rows` meets its contract: it calls `grid_parts::copy_by_rows` with the reader's file and layout, and hands back the answer.
+-- `reader::copy_by_rows` meets its contract: it calls `grid_copies::copy_by_rows` with the reader's file and layout, and hands back the answer.
 -- Assumes nothing.
 use mathlib.Core.Path.{refl}
 use mathlib.Core.List.{List, [], _∷_}
@@ -11,11 +11,11 @@ use types.Kit.{Given, raw, _$_, _∵_, !, qed, done}
 use types.Run.{look, init, stop, from, of-opd, and-then, no-more, assigns, calls, land, returns}
 use sound.WpLaws.{FmC}
 use denote.Builtin.{i32}
-use Rattle.refusal.proofs.SizeAnswer as Answer
-use Rattle.refusal.proofs.SizeAnswer.Laws as Answer′
-use Rattle.grid_parts.proofs.copy_by_rows as callee
-use Rattle.grid_parts.proofs.copy_by_rows.Met as callee-met
-use Rattle.grid_parts.proofs.copy_by_rows.Symbol as callee-def
+use Rattle.refusal_rules.proofs.SizeAnswer as Answer
+use Rattle.refusal_rules.proofs.SizeAnswer.Laws as Answer′
+use Rattle.grid_copies.proofs.copy_by_rows as callee
+use Rattle.grid_copies.proofs.copy_by_rows.Met as callee-met
+use Rattle.grid_copies.proofs.copy_by_rows.Symbol as callee-def
 use Rattle.walks.proofs.Calls.{informs}
 use Rattle.walks.proofs.Known.{Known, one-of, passed-as}
 use Rattle.walks.proofs.Locals.{holding, starts, frees-all, at}
@@ -52,5 +52,5 @@ unfolding code.routine
 copy-by-rows-spec 𝓤 H 𝓜 𝓖 𝓡 =
     opened 𝓤 H 𝓜 𝓖 𝓡 beside answer code.env (callee.clauses 𝓤 H (𝓖 .A) (𝓜 .mem) (𝓡 .run)) (λ κs a.
     self.clauses 𝓤 H (𝓖 .A) (𝓜 .mem) (𝓡 .run) κs a .ensures) (λ κs a g x e. id⊢ 𝓤 _)
-    callee-def.name callee-def.routine code.calls-grid-parts·copy-by-rows (callee-met.met 𝓤 H 𝓜 𝓖 𝓡)
+    callee-def.name callee-def.routine code.calls-grid-copies·copy-by-rows (callee-met.met 𝓤 H 𝓜 𝓖 𝓡)
     key.name code.function (code.unfolded 𝓤 H 𝓜 𝓡) (walk 𝓤 H (𝓖 .A) (givenOf 𝓤 H 𝓜 𝓖))

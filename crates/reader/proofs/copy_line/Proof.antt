@@ -11,8 +11,8 @@ use types.Kit.{Given, raw, _$_, _∵_, !, qed, done}
 use types.Run.{look, init, stop, from, of-opd, and-then, no-more, assigns, calls, land, returns}
 use sound.WpLaws.{FmC}
 use denote.Builtin.{u32}
-use Rattle.refusal.proofs.SizeAnswer as Answer
-use Rattle.refusal.proofs.SizeAnswer.Laws as Answer′
+use Rattle.refusal_rules.proofs.SizeAnswer as Answer
+use Rattle.refusal_rules.proofs.SizeAnswer.Laws as Answer′
 use Rattle.area_lines.proofs.copy_line as callee
 use Rattle.area_lines.proofs.copy_line.Met as callee-met
 use Rattle.area_lines.proofs.copy_line.Symbol as callee-def

@@ -1,4 +1,4 @@
--- `reader::point` meets its contract: it calls `values::read_point` with the reader's file and layout, and hands back the answer.
+-- `reader::point` meets its contract: it calls `reads::read_point` with the reader's file and layout, and hands back the answer.
 -- Assumes nothing.
 use mathlib.Core.Path.{refl}
 use mathlib.Core.List.{List, [], _∷_}
@@ -10,11 +10,11 @@ use contract.Running.{givenOf}
 use types.Kit.{Given, raw, _$_, _∵_, !, qed, done}
 use types.Run.{look, init, stop, from, of-opd, and-then, no-more, assigns, calls, land, returns}
 use sound.WpLaws.{FmC}
-use Rattle.refusal.proofs.WordAnswer as Answer
-use Rattle.refusal.proofs.WordAnswer.Laws as Answer′
-use Rattle.values.proofs.read_point as callee
-use Rattle.values.proofs.read_point.Met as callee-met
-use Rattle.values.proofs.read_point.Symbol as callee-def
+use Rattle.refusal_rules.proofs.WordAnswer as Answer
+use Rattle.refusal_rules.proofs.WordAnswer.Laws as Answer′
+use Rattle.reads.proofs.read_point as callee
+use Rattle.reads.proofs.read_point.Met as callee-met
+use Rattle.reads.proofs.read_point.Symbol as callee-def
 use Rattle.walks.proofs.Calls.{informs}
 use Rattle.walks.proofs.Known.{Known, one-of, passed-as}
 use Rattle.walks.proofs.Locals.{holding, starts, frees-all, at}
@@ -49,5 +49,5 @@ unfolding code.routine
 point-spec 𝓤 H 𝓜 𝓖 𝓡 =
     opened 𝓤 H 𝓜 𝓖 𝓡 beside answer code.env (callee.clauses 𝓤 H (𝓖 .A) (𝓜 .mem) (𝓡 .run)) (λ κs a.
     self.clauses 𝓤 H (𝓖 .A) (𝓜 .mem) (𝓡 .run) κs a .ensures) (λ κs a g x e. id⊢ 𝓤 _)
-    callee-def.name callee-def.routine code.calls-values·read-point (callee-met.met 𝓤 H 𝓜 𝓖 𝓡)
+    callee-def.name callee-def.routine code.calls-reads·read-point (callee-met.met 𝓤 H 𝓜 𝓖 𝓡)
     key.name code.function (code.unfolded 𝓤 H 𝓜 𝓡) (walk 𝓤 H (𝓖 .A) (givenOf 𝓤 H 𝓜 𝓖))

@@ -10,9 +10,9 @@ use contract.Running.{givenOf}
 use types.Kit.{Given, raw, _$_, _∵_, !, qed, done}
 use types.Run.{look, init, stop, from, and-then, no-more, calls, land, returns}
 use sound.WpLaws.{FmC}
-use Rattle.refusal.proofs.NumberAnswer as Answer
-use Rattle.refusal.proofs.NumberAnswer.Laws as Answer′
-use Rattle.values.proofs.read_sample as read_sample
+use Rattle.refusal_rules.proofs.NumberAnswer as Answer
+use Rattle.refusal_rules.proofs.NumberAnswer.Laws as Answer′
+use Rattle.reads.proofs.read_sample as read_sample
 use Rattle.walks.proofs.Calls.{informs}
 use Rattle.walks.proofs.Known.{Known, one-of, passed-as}
 use Rattle.walks.proofs.Locals.{holding, starts, frees-all, at}

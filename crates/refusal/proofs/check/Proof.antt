@@ -1,7 +1,7 @@
 -- `refusal::check` meets its contract: each way out is one case of `first` and of `judge`.
 -- Assumes nothing.
 use borrow.Author.Needs.{needs}
-use Rattle.refusal.specs.Rules.{judge, first}
+use Rattle.refusal_rules.specs.Rules.{judge, first}
 use Rattle.refusal.proofs.check.Statement.{statement}
 use Rattle.refusal.proofs.check.Tie as tie
 

@@ -1,7 +1,7 @@
 -- `refusal::within` meets its contract: the second bound is tested where the first holds.
 -- Assumes nothing.
 use borrow.Author.Tests.{le-leb, lt-leb}
-use Rattle.refusal.specs.Tests.{within}
+use Rattle.refusal_rules.specs.Tests.{within}
 use Rattle.refusal.proofs.within.Statement.{statement}
 use Rattle.refusal.proofs.within.Tie as tie
 

@@ -2,10 +2,10 @@
 -- Assumes nothing.
 use mathlib.Core.Path.{sym, ap, _∙_}
 use denote.Ref.{now}
-use Rattle.refusal.specs.Answers.{placeSays}
-use Rattle.plan.specs.Plans.{outcome}
-use Rattle.values.proofs.Reading.{place-room}
-use Rattle.store_plans.specs.Stores.{putAt}
+use Rattle.refusal_rules.specs.Answers.{placeSays}
+use Rattle.store_theory.specs.Plans.{outcome}
+use Rattle.value_rules.proofs.Reading.{place-room}
+use Rattle.store_rules.specs.Stores.{putAt}
 use borrow.Author.Needs.{needs}
 use Rattle.stores.proofs.store.Statement.{statement}
 use Rattle.stores.proofs.store.Tie as tie

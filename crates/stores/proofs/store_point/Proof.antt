@@ -4,10 +4,10 @@ use mathlib.Core.Path.{_≡_, sym, ap, _∙_}
 use mir.Syntax.{w32}
 use mir.Val.{toZ, ofZ}
 use denote.Ref.{now}
-use Rattle.places.specs.declared.What.the-variants.{Point}
-use Rattle.store_plans.specs.Stores.{point}
-use Rattle.store_plans.proofs.Single.{store-by-place}
-use Rattle.stores.specs.Answers.{storeAt}
+use Rattle.value_rules.specs.declared.ValueName.the-variants.{Point}
+use Rattle.store_rules.specs.Stores.{point}
+use Rattle.store_rules.proofs.Single.{store-by-place}
+use Rattle.store_rules.specs.Answers.{storeAt}
 use borrow.Author.Needs.{needs}
 use Rattle.stores.proofs.store_point.Statement.{statement}
 use Rattle.stores.proofs.store_point.Tie as tie

@@ -2,8 +2,8 @@
 -- Assumes nothing.
 use mathlib.Core.Path.{sym, _∙_}
 use denote.Ref.{now}
-use Rattle.store_plans.specs.Stores.{sample}
-use Rattle.store_plans.proofs.Single.{store-by-place}
+use Rattle.store_rules.specs.Stores.{sample}
+use Rattle.store_rules.proofs.Single.{store-by-place}
 use borrow.Author.Needs.{needs}
 use Rattle.stores.proofs.store_sample.Statement.{statement}
 use Rattle.stores.proofs.store_sample.Tie as tie

@@ -1,4 +1,0 @@
-pub mod Opening
-pub mod Samples
-pub mod Blocks
-pub mod Worked

@@ -1,0 +1,32 @@
+-- The blocks of an AREA file, each by its start and length in bytes or its refusal: document 01, "AREA" and "What comes back". Each call refuses 9, then 7 for the
+-- kind, then 6 for an absent block.
+-- Assumes nothing.
+use mathlib.Core.Bool.{not}
+use mathlib.Core.List.{List, [], _∷_}
+use Prim.Native.Nat.{ℕ, _-_}
+use lib.Dec.{eqb}
+use Rattle.refusal_rules.specs.Answers.{Answer, answered, andThen}
+use Rattle.refusal_rules.specs.Rules.{Rule, rule, firstFault}
+use Rattle.area_rules.specs.Blocks.{nextStart, blockStarts, blockStart, blockLength, blockPresent}
+use Rattle.area_rules.specs.declared.AreaLayout.{AreaLayout}
+use Rattle.area_rules.specs.declared.Block.{Block}
+use Rattle.layout_rules.specs.Found.{areaOf}
+use Rattle.layout_rules.specs.declared.Layout.{Layout}
+use Rattle.span_rules.specs.Spans.{span}
+use Rattle.span_rules.specs.declared.Span.{Span}
+
+-- the span of a block that starts at x, and is absent where x is 0: NAV, CAL and AUX
+unfoldable pub optionalBlockOf : AreaLayout → ℕ → Answer Span
+optionalBlockOf l x = answered (firstFault (rule (not (eqb x 0)) 6 0 ∷ [])) (span x (nextStart x (l .length) (blockStarts l) - x))
+
+-- a block of a layout: 6 where it is absent
+unfoldable pub blockRules : AreaLayout → Block → List Rule
+blockRules l b = rule (blockPresent l b) 6 0 ∷ []
+
+-- its span
+unfoldable pub blockOf : AreaLayout → Block → Answer Span
+blockOf l b = answered (firstFault (blockRules l b)) (span (blockStart l b) (blockLength l b))
+
+-- of a file
+abbrev pub blockSpan : List ℕ → Layout → Block → Answer Span
+blockSpan f l b = andThen (areaOf f l) (λ a. blockOf a b)

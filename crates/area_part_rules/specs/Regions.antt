@@ -1,0 +1,28 @@
+-- The regions of a line's prefix in an AREA file, each by its start and length in bytes or its refusal: document 01, "AREA" and "What comes back". Each call refuses 9,
+-- then 7 for the kind, then 7 for the line, then 6 for a region of length 0.
+-- Assumes nothing.
+use mathlib.Core.Bool.{not}
+use mathlib.Core.List.{List, [], _∷_}
+use Prim.Native.Nat.{ℕ}
+use lib.Dec.{ltb, eqb}
+use Rattle.refusal_rules.specs.Answers.{Answer, answered, andThen}
+use Rattle.refusal_rules.specs.Rules.{Rule, rule, firstFault}
+use Rattle.area_rules.specs.Blocks.{regionStart, regionLength}
+use Rattle.area_rules.specs.declared.AreaLayout.{AreaLayout}
+use Rattle.area_rules.specs.declared.Region.{Region}
+use Rattle.layout_rules.specs.Found.{areaOf}
+use Rattle.layout_rules.specs.declared.Layout.{Layout}
+use Rattle.span_rules.specs.Spans.{span}
+use Rattle.span_rules.specs.declared.Span.{Span}
+
+-- a region of a line's prefix: 7 where there is no such line, then 6 where the region has length 0
+unfoldable pub regionRules : AreaLayout → ℕ → Region → List Rule
+regionRules l i r = rule (ltb i (l .lines)) 7 0 ∷ rule (not (eqb (regionLength l r) 0)) 6 0 ∷ []
+
+-- its span
+unfoldable pub regionOf : AreaLayout → ℕ → Region → Answer Span
+regionOf l i r = answered (firstFault (regionRules l i r)) (span (regionStart l i r) (regionLength l r))
+
+-- of a file
+abbrev pub regionSpan : List ℕ → Layout → ℕ → Region → Answer Span
+regionSpan f l i r = andThen (areaOf f l) (λ a. regionOf a i r)

@@ -1,4 +1,0 @@
-pub mod Bounds
-pub mod Tables
-pub mod Sizes
-pub mod Places

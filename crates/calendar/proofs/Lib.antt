@@ -1,4 +1,0 @@
-pub mod Months
-pub mod Dates
-pub mod Times
-mod Worked

@@ -1,2 +1,0 @@
-mod Lines
-pub mod Grids

@@ -1,0 +1,39 @@
+-- The worked file G of document 01: 336 bytes, big order, n = 2, offsets 14 and -1, next free word 84, grid 1 of 2 rows, 3 columns, size 6.
+-- The cases that document 01 marks stand together in worked_cases.
+-- Assumes nothing.
+use mathlib.Core.Path.{_≡_}
+use mathlib.Core.List.{List, [], _∷_}
+use Prim.Native.Nat.{ℕ}
+use lib.ListN.{length}
+use Rattle.endian_rules.specs.Files.{given, bytesOf}
+use Rattle.endian_rules.specs.declared.Order.the-variants.{Big}
+use Rattle.refusal_rules.specs.Answers.{gives}
+use Rattle.grid_rules.specs.Opening.{openGrid}
+use Rattle.grid_rules.specs.declared.GridLayout.{GridLayout}
+
+-- G, but for the offset of grid 2
+unfoldable pub fileG : ℕ → List ℕ
+fileG offset2 =
+    bytesOf Big
+    (given 84
+    ((10, 2)
+    ∷ (11, 14)
+    ∷ (12, offset2)
+    ∷ (13, 84)
+    ∷ (14, 6)
+    ∷ (15, 2)
+    ∷ (16, 3)
+    ∷ []))
+
+-- G
+unfoldable pub G : List ℕ
+G = fileG 4294967295
+
+-- the layout of grid 1
+unfoldable pub layoutG : GridLayout
+layoutG = record { order = Big; length = 336; number = 1; offset = 14; rows = 2; columns = 3 }
+
+-- it has the size that document 01 gives, and this layout
+pub record WorkedGrid : Type 0 where
+  pub size : length G ≡ 336
+  pub G-opens : openGrid Big G 1 ≡ gives layoutG

@@ -1,0 +1,12 @@
+pub mod Words
+pub mod Highest
+pub mod Deleted
+pub mod GridBytes
+pub mod Addition
+pub mod Exact
+pub mod Answers
+pub mod Worked
+pub mod Verdicts
+pub mod Plans
+pub mod Bytes
+pub mod Calls

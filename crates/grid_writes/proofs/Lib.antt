@@ -1,4 +1,0 @@
-pub mod Verdicts
-pub mod Plans
-pub mod Bytes
-pub mod Calls

@@ -1,5 +1,0 @@
-pub mod Rules
-pub mod Opening
-pub mod Accepts
-pub mod Fields
-pub mod Worked

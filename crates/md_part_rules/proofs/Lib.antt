@@ -1,0 +1,4 @@
+pub mod Names
+pub mod Keys
+pub mod Fills
+pub mod Records

@@ -1,2 +1,0 @@
-mod Fills
-pub mod Records

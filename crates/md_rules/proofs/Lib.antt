@@ -1,0 +1,10 @@
+pub mod Verdicts
+pub mod Acceptance
+pub mod Facts
+pub mod Footprint
+pub mod Fields
+pub mod Worked
+pub mod Bounds
+pub mod Tables
+pub mod Sizes
+pub mod Places

@@ -1,3 +1,0 @@
-pub mod Spans
-pub mod Copies
-pub mod Runs

@@ -1,8 +1,0 @@
-pub mod Orders
-pub mod Plans
-pub mod Series
-pub mod Runs
-pub mod Claims
-pub mod Calls
-pub mod Formats
-mod Worked

@@ -1,3 +1,0 @@
-pub mod Puts
-pub mod Stores
-pub mod Single

@@ -1,0 +1,4 @@
+pub mod Puts
+pub mod Stores
+pub mod Single
+pub mod Answers
