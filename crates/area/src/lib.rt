@@ -44,7 +44,7 @@ fn second_map(bands: u32, map2: u32) -> u32
 
 // The layout that the words of a file of `told` bytes give.
 fn layout(told: usize, order: Order, words: &[u32; 64]) -> AreaLayout
-    ensures { λ r. ⌜ r ≡ areaLayoutOf told order (wordIn (now (words .entry))) ⌝ }
+    ensures { λ r. ⌜ r ≡ areaLayoutOf order told (wordIn (now (words .entry))) ⌝ }
 {
     let map2 = second_map(words[13], words[19]);
     AreaLayout {
@@ -57,21 +57,21 @@ fn layout(told: usize, order: Order, words: &[u32; 64]) -> AreaLayout
         prefix: words[14],
         map: words[18],
         map2: map2,
-        start: words[33],
+        data_start: words[33],
         nav: words[34],
         documentation: words[48],
         calibration: words[49],
-        list: words[50],
+        band_list: words[50],
         aux: words[59],
         cal: words[62],
         cards: words[63],
-        plain: words[35] == 0,
+        no_validity_code: words[35] == 0,
     }
 }
 
 // Opens by the words of a directory, where W2 reads 4 in this order.
 fn open_words(told: usize, order: Order, words: &[u32; 64]) -> AreaOpening
-    ensures { λ r. ⌜ areaSays r ≡ openAreaWords told order (wordIn (now (words .entry))) ⌝ }
+    ensures { λ r. ⌜ areaSays r ≡ openAreaWords order told (wordIn (now (words .entry))) ⌝ }
 {
     match word_verdict(told, words) {
         Verdict::Fault(refusal) => AreaOpening::Refused(refusal),
@@ -82,7 +82,7 @@ fn open_words(told: usize, order: Order, words: &[u32; 64]) -> AreaOpening
 // Opens by the bytes of a directory, where W2 reads 4 in this order.
 fn open_ordered(told: usize, order: Order, bytes: &[u8]) -> AreaOpening
     requires { ⌜ 256 ≤ length (now bytes) ⌝ }
-    ensures { λ r. ⌜ areaSays r ≡ openAreaWords told order (wordIn (directoryOf order (now (bytes .entry)))) ⌝ }
+    ensures { λ r. ⌜ areaSays r ≡ openAreaWords order told (wordIn (directoryOf order (now (bytes .entry)))) ⌝ }
 {
     let words = read_directory(order, bytes);
     open_words(told, order, &words)
@@ -137,11 +137,15 @@ fn flag_number(t: bool) -> u32
 fn same_from_calibration(a: AreaLayout, b: AreaLayout) -> bool
     ensures { λ r. ⌜ r ≡ sameNumbers (drop 12 (areaNumbers a)) (drop 12 (areaNumbers b)) ⌝ }
 {
-    let t = equal_and(flag_number(a.plain), flag_number(b.plain), true);
+    let t = equal_and(
+        flag_number(a.no_validity_code),
+        flag_number(b.no_validity_code),
+        true,
+    );
     let t = equal_and(a.cards, b.cards, t);
     let t = equal_and(a.cal, b.cal, t);
     let t = equal_and(a.aux, b.aux, t);
-    let t = equal_and(a.list, b.list, t);
+    let t = equal_and(a.band_list, b.band_list, t);
     equal_and(a.calibration, b.calibration, t)
 }
 
@@ -152,7 +156,7 @@ fn same_from_prefix(a: AreaLayout, b: AreaLayout) -> bool
     let t = same_from_calibration(a, b);
     let t = equal_and(a.documentation, b.documentation, t);
     let t = equal_and(a.nav, b.nav, t);
-    let t = equal_and(a.start, b.start, t);
+    let t = equal_and(a.data_start, b.data_start, t);
     let t = equal_and(a.map2, b.map2, t);
     let t = equal_and(a.map, b.map, t);
     equal_and(a.prefix, b.prefix, t)

@@ -35,7 +35,7 @@ fn nearer_start(x: u32, s: u32, n: usize) -> usize
 fn end_of(l: AreaLayout, x: u32) -> usize
     ensures { λ r. ⌜ r ≡ nextStart x (l .length) (blockStarts l) ⌝ }
 {
-    let data = nearer_start(x, l.start, l.length);
+    let data = nearer_start(x, l.data_start, l.length);
     let aux = nearer_start(x, l.aux, data);
     let cal = nearer_start(x, l.cal, aux);
     nearer_start(x, l.nav, cal)
@@ -64,7 +64,7 @@ fn data_span(l: AreaLayout) -> SpanAnswer
     requires { ⌜ AreaFits l ⌝ }
     ensures { λ r. ⌜ spanSays r ≡ blockOf l Block.Data ⌝ }
 {
-    let start = l.start as usize;
+    let start = l.data_start as usize;
     match line_start(l, l.lines) {
         SizeAnswer::Refused(refusal) => SpanAnswer::Refused(refusal),
         SizeAnswer::Value(end) => SpanAnswer::At(Span {

@@ -15,18 +15,18 @@ use Rattle.layout_rules.specs.declared.Layout.{Layout}
 use Rattle.span_rules.specs.Spans.{span}
 use Rattle.span_rules.specs.declared.Span.{Span}
 
--- the span of a block that starts at x, and is absent where x is 0: NAV, CAL and AUX
+-- the span of NAV, CAL or AUX, which starts at x and is absent where x is 0, or refusal 6
 unfoldable pub optionalBlockOf : AreaLayout → ℕ → Answer Span
-optionalBlockOf l x = answered (firstFault (rule (not (eqb x 0)) 6 0 ∷ [])) (span x (nextStart x (l .length) (blockStarts l) - x))
+optionalBlockOf a x = answered (firstFault (rule (not (eqb x 0)) 6 0 ∷ [])) (span x (nextStart x (a .length) (blockStarts a) - x))
 
--- a block of a layout: 6 where it is absent
+-- the rules of a block: 6 where it is absent
 unfoldable pub blockRules : AreaLayout → Block → List Rule
-blockRules l b = rule (blockPresent l b) 6 0 ∷ []
+blockRules a b = rule (blockPresent a b) 6 0 ∷ []
 
--- its span
+-- the span of a block by a layout, or the refusal
 unfoldable pub blockOf : AreaLayout → Block → Answer Span
-blockOf l b = answered (firstFault (blockRules l b)) (span (blockStart l b) (blockLength l b))
+blockOf a b = answered (firstFault (blockRules a b)) (span (blockStart a b) (blockLength a b))
 
--- of a file
+-- the span of a block of a file, or the refusal
 abbrev pub blockSpan : List ℕ → Layout → Block → Answer Span
 blockSpan f l b = andThen (areaOf f l) (λ a. blockOf a b)

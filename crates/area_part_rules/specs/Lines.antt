@@ -17,22 +17,22 @@ use Rattle.area_rules.specs.declared.SlotOrBand.{SlotOrBand}
 use Rattle.area_rules.specs.declared.SlotOrBand.the-variants.{Band}
 use Rattle.copy_rules.specs.Runs.{copied}
 
--- the slot of a band of a file
+-- the slot of band b of a file, or the refusal
 abbrev pub bandSlotIn : List ℕ → Layout → ℕ → Answer ℕ
 bandSlotIn f l b = andThen (areaOf f l) (λ a. slotOf a (Band b))
 
--- the samples of slot s of line i, element by element: W10 of them
+-- the samples of slot s of line l, element by element: "One slot of one line copies into a lent buffer of 32-bit unsigned numbers, W10 of them."
 unfoldable pub slotLine : List ℕ → AreaLayout → ℕ → ℕ → List ℕ
-slotLine f l i s = listOf (λ e. numberAt (l .order) (l .width) f (sampleAddress l i e s)) (l .elements)
+slotLine f a l s = listOf (λ e. numberAt (a .order) (a .width) f (sampleAddress a l e s)) (a .elements)
 
--- those of a channel of line i: 7 where there is no such line
+-- the samples of a slot or band b of line l of an accepted file, or the refusal: first that of the slot or band, then 7 where there is no such line
 unfoldable pub lineIn : List ℕ → AreaLayout → ℕ → SlotOrBand → Answer (List ℕ)
-lineIn f l i c = andThen (slotOf l c) (λ s. answered (firstFault (rule (ltb i (l .lines)) 7 0 ∷ [])) (slotLine f l i s))
+lineIn f a l b = andThen (slotOf a b) (λ s. answered (firstFault (rule (ltb l (a .lines)) 7 0 ∷ [])) (slotLine f a l s))
 
--- of a file
+-- the samples of a slot or band b of line i of any file with a layout l, or the refusal
 abbrev pub lineOf : List ℕ → Layout → ℕ → SlotOrBand → Answer (List ℕ)
-lineOf f l i c = andThen (areaOf f l) (λ a. lineIn f a i c)
+lineOf f l i b = andThen (areaOf f l) (λ a. lineIn f a i b)
 
--- a line copied into a lent output: then 10 where the output is too short
+-- what copying a slot or band of a line into a lent output answers and leaves: after the refusals of the line, 10 where the output is too short
 abbrev pub copyLine : List ℕ → Layout → ℕ → SlotOrBand → List ℕ → Answer ℕ × List ℕ
-copyLine f l i c out = copied (lineOf f l i c) out
+copyLine f l i b out = copied (lineOf f l i b) out

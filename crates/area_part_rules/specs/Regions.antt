@@ -15,14 +15,14 @@ use Rattle.layout_rules.specs.declared.Layout.{Layout}
 use Rattle.span_rules.specs.Spans.{span}
 use Rattle.span_rules.specs.declared.Span.{Span}
 
--- a region of a line's prefix: 7 where there is no such line, then 6 where the region has length 0
+-- the rules of a region of the prefix of line l: 7 where there is no such line, then 6 where the region has length 0
 unfoldable pub regionRules : AreaLayout → ℕ → Region → List Rule
-regionRules l i r = rule (ltb i (l .lines)) 7 0 ∷ rule (not (eqb (regionLength l r) 0)) 6 0 ∷ []
+regionRules a l r = rule (ltb l (a .lines)) 7 0 ∷ rule (not (eqb (regionLength a r) 0)) 6 0 ∷ []
 
--- its span
+-- the span of a region of the prefix of line l by a layout, or the refusal
 unfoldable pub regionOf : AreaLayout → ℕ → Region → Answer Span
-regionOf l i r = answered (firstFault (regionRules l i r)) (span (regionStart l i r) (regionLength l r))
+regionOf a l r = answered (firstFault (regionRules a l r)) (span (regionStart a l r) (regionLength a r))
 
--- of a file
+-- the span of a region of the prefix of line i of a file with a layout l, or the refusal
 abbrev pub regionSpan : List ℕ → Layout → ℕ → Region → Answer Span
 regionSpan f l i r = andThen (areaOf f l) (λ a. regionOf a i r)

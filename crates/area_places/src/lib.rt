@@ -40,7 +40,7 @@ fn line_at(l: AreaLayout, line: u32) -> usize
     requires { ⌜ AreaBounds l × (line ≤ l .lines) ⌝ }
     ensures { λ r. ⌜ r ≡ lineStart l line ⌝ }
 {
-    l.start as usize + line as usize * line_length_in(l)
+    l.data_start as usize + line as usize * line_length_in(l)
 }
 
 // The byte at which a line of an AREA file begins, with its prefix, the line counted from 0. Line W9 would begin where DATA ends, and so gives that byte.

@@ -24,10 +24,10 @@ fn region_length(l: AreaLayout, region: Region) -> usize
     ensures { λ r. ⌜ r ≡ regionLength l region ⌝ }
 {
     match region {
-        Region::Validity => { if l.plain { 0 } else { 4 } }
+        Region::Validity => { if l.no_validity_code { 0 } else { 4 } }
         Region::Documentation => l.documentation as usize,
         Region::Calibration => l.calibration as usize,
-        Region::BandList => l.list as usize,
+        Region::BandList => l.band_list as usize,
     }
 }
 

@@ -17,7 +17,7 @@ use Rattle.area_rules.proofs.Words.{rules-exactly}
 
 -- the layout that the bytes d give, which a file of `told` bytes begins with
 abbrev pub layoutTold : ℕ → List ℕ → AreaLayout
-layoutTold told d = areaLayoutOf told (areaOrder d) (wordIn (directoryOf (areaOrder d) d))
+layoutTold told d = areaLayoutOf (areaOrder d) told (wordIn (directoryOf (areaOrder d) d))
 
 -- a file of which the first bytes are at hand opens exactly where all rules hold, and then to that layout and no other
 pub told-exactly : (told : ℕ) (d : List ℕ) (l : AreaLayout) → (openAreaTold told d ≡ gives l) ↔ (AcceptsArea told d × (l ≡ layoutTold told d))

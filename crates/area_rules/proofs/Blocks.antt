@@ -110,9 +110,9 @@ module _ (l : AreaLayout) (fits : AreaFits l) where
   optional-end x o = (next-after x (l .length) (blockStarts l) (o .at .to), next-most x (l .length) (blockStarts l))
 
   -- it ends before DATA, or starts behind AUDIT
-  optional-data : (x : ℕ) → Optional l x → (endOf l x ≤ l .start) ⊎ (auditEndIn l ≤ x)
+  optional-data : (x : ℕ) → Optional l x → (endOf l x ≤ l .«data_start») ⊎ (auditEndIn l ≤ x)
   optional-data x o =
-      ⊎-elim (λ h. inl (next-least x (l .length) (blockStarts l) (l .start) (inr (inr (inr (inl refl)))) h)) (λ h. inr h) (o .at .outside)
+      ⊎-elim (λ h. inl (next-least x (l .length) (blockStarts l) (l .«data_start») (inr (inr (inr (inl refl)))) h)) (λ h. inr h) (o .at .outside)
 
   -- of two that start at different places, one ends before the other begins
   optional-two : (x y : ℕ) → Optional l x → Optional l y → ¬ (x ≡ y) → (endOf l x ≤ y) ⊎ (endOf l y ≤ x)
@@ -130,7 +130,7 @@ module _ (l : AreaLayout) (fits : AreaFits l) where
 
   -- a block that is present has bytes, and ends inside the file
   pub block-inside : (b : Block) → blockPresent l b ≡ true → (blockStart l b < blockEnd l b) × (blockEnd l b ≤ l .length)
-  block-inside Dir p = (omega arith, omega (arith, fits .start-from, fits .room))
+  block-inside Dir p = (omega arith, omega (arith, fits .data-start-from, fits .room))
   block-inside Nav p = optional-end (l .nav) (nav-optional p)
   block-inside Cal p = optional-end (l .cal) (cal-optional p)
   block-inside Aux p = optional-end (l .aux) (aux-optional p)
@@ -143,12 +143,12 @@ module _ (l : AreaLayout) (fits : AreaFits l) where
   block-from Nav p other = nav-optional p .at .from
   block-from Cal p other = cal-optional p .at .from
   block-from Aux p other = aux-optional p .at .from
-  block-from Data p other = fits .start-from
-  block-from Audit p other = omega (arith, fits .start-from)
+  block-from Data p other = fits .data-start-from
+  block-from Audit p other = omega (arith, fits .data-start-from)
 
   -- of a block and DATA, one ends before the other begins
-  data-clear : (c : Block) → blockPresent l c ≡ true → ¬ (Data ≡ c) → (dataEndIn l ≤ blockStart l c) ⊎ (blockEnd l c ≤ l .start)
-  data-clear Dir q other = inr (fits .start-from)
+  data-clear : (c : Block) → blockPresent l c ≡ true → ¬ (Data ≡ c) → (dataEndIn l ≤ blockStart l c) ⊎ (blockEnd l c ≤ l .«data_start»)
+  data-clear Dir q other = inr (fits .data-start-from)
   data-clear Nav q other = ⊎-elim (λ h. inr h) (λ h. inl (omega arith)) (optional-data (l .nav) (nav-optional q))
   data-clear Cal q other = ⊎-elim (λ h. inr h) (λ h. inl (omega arith)) (optional-data (l .cal) (cal-optional q))
   data-clear Aux q other = ⊎-elim (λ h. inr h) (λ h. inl (omega arith)) (optional-data (l .aux) (aux-optional q))
@@ -157,7 +157,7 @@ module _ (l : AreaLayout) (fits : AreaFits l) where
 
   -- of a block and AUDIT
   audit-clear : (c : Block) → blockPresent l c ≡ true → ¬ (Audit ≡ c) → (auditEndIn l ≤ blockStart l c) ⊎ (blockEnd l c ≤ dataEndIn l)
-  audit-clear Dir q other = inr (omega (arith, fits .start-from))
+  audit-clear Dir q other = inr (omega (arith, fits .data-start-from))
   audit-clear Nav q other = ⊎-elim (λ h. inr (omega arith)) (λ h. inl h) (optional-data (l .nav) (nav-optional q))
   audit-clear Cal q other = ⊎-elim (λ h. inr (omega arith)) (λ h. inl h) (optional-data (l .cal) (cal-optional q))
   audit-clear Aux q other = ⊎-elim (λ h. inr (omega arith)) (λ h. inl h) (optional-data (l .aux) (aux-optional q))

@@ -100,6 +100,6 @@ line-most W e f =
     let samples : W 14 * W 10 * W 11 ≤ 64 * 65535 * 4 = mul-le-mul (mul-le-mul (k .w14 .1) (k .w10 .1)) (width-bounds (W 11) (k .w11) .1) in
     omega (arith, prefix, samples, code (eqb (W 36) 0), k .w49 .1, k .w50 .1, k .w51 .1)
   where
-    code : (plain : Bool) → validityLength plain ≤ 4
+    code : (noCode : Bool) → validityLength noCode ≤ 4
     code true = omega arith
     code false = omega arith

@@ -27,12 +27,12 @@ module _ (told : ℕ) (d : List ℕ) where
 
   module _ (h : 256 ≤ told) (k : 256 ≤ length d) where
     -- word 2 reads 4 in big order
-    pub opens-big : wordAt Big d 1 ≡ 4 → openAreaTold told d ≡ openAreaWords told Big (wordIn (directoryOf Big d))
+    pub opens-big : wordAt Big d 1 ≡ 4 → openAreaTold told d ≡ openAreaWords Big told (wordIn (directoryOf Big d))
     unfolding openAreaTold areaRules openAreaWords firstFault first judge
     opens-big e = rw (le-leb 256 told h, le-leb 256 (length d) k, eq-eqb (wordAt Big d 1) 4 e)
 
     -- in little order, but not in big order
-    pub opens-little : ¬ (wordAt Big d 1 ≡ 4) → wordAt Little d 1 ≡ 4 → openAreaTold told d ≡ openAreaWords told Little (wordIn (directoryOf Little d))
+    pub opens-little : ¬ (wordAt Big d 1 ≡ 4) → wordAt Little d 1 ≡ 4 → openAreaTold told d ≡ openAreaWords Little told (wordIn (directoryOf Little d))
     unfolding openAreaTold areaRules openAreaWords firstFault first judge
     opens-little n e = rw (le-leb 256 told h, le-leb 256 (length d) k, ne-eqb (wordAt Big d 1) 4 n, eq-eqb (wordAt Little d 1) 4 e)
 

@@ -25,7 +25,7 @@ use Rattle.area_rules.specs.declared.AreaLayout.{AreaLayout}
 use Rattle.area_rules.proofs.Acceptance.{told-exactly, area-exactly}
 
 -- a prefix whose regions are multiples of four is one
-four-prefix : (plain : Bool) (a b c : ℕ) → a % 4 ≡ 0 → b % 4 ≡ 0 → c % 4 ≡ 0 → prefixLength plain a b c % 4 ≡ 0
+four-prefix : (noCode : Bool) (a b c : ℕ) → a % 4 ≡ 0 → b % 4 ≡ 0 → c % 4 ≡ 0 → prefixLength noCode a b c % 4 ≡ 0
 four-prefix true a b c p q r = omega arith
 four-prefix false a b c p q r = omega arith
 
@@ -39,7 +39,7 @@ module _ (told start end x : ℕ) {Unequal : Type 0} (h : BlockStartFits told st
   start-unequal = ⊎-elim (λ e. absurd (there e)) (λ p. p .1 .1 .1) h
 
 -- the layout of words that are accepted
-pub words-fit : (told : ℕ) (o : Order) (W : ℕ → ℕ) → AcceptsAreaWords told W → AreaFits (areaLayoutOf told o W)
+pub words-fit : (told : ℕ) (o : Order) (W : ℕ → ℕ) → AcceptsAreaWords told W → AreaFits (areaLayoutOf o told W)
 unfolding areaLayoutOf
 words-fit told o W a =
     let data-start = signed-at-least 256 (W 34) .0 (a .w34 .0) in
@@ -53,15 +53,15 @@ words-fit told o W a =
       bands-to = a .w14 .1;
       documentation-to = a .w49 .1;
       calibration-to = a .w50 .1;
-      list-to = a .w51 .1;
+      band-list-to = a .w51 .1;
       cards-to = a .w64 .1;
       prefix = a .w15;
       prefix-four =
-          ap (λ (n : ℕ). n % 4) (a .w15) ∙ four-prefix (eqb (W 36) 0) (W 49) (W 50) (W 51) (a .fourfold49) (a .fourfold50) (a .fourfold51);
+          ap (λ (n : ℕ). n % 4) (a .w15) ∙ four-prefix (eqb (W 36) 0) (W 49) (W 50) (W 51) (a .multiple49) (a .multiple50) (a .multiple51);
       line-four = a .line;
       second-map = λ h. ap (λ t. pick t 0 (W 20)) (le-leb (W 14) 32 h);
-      start-from = data-start .0;
-      start-signed = data-start .1;
+      data-start-from = data-start .0;
+      data-start-signed = data-start .1;
       room = a .w34 .1;
       nav = λ there. starts (W 35) (start-at told (W 34) (auditEndOf W) (W 35) (a .w35) there);
       cal = λ there. starts (W 63) (start-at told (W 34) (auditEndOf W) (W 63) (a .w63) there);
@@ -71,7 +71,7 @@ words-fit told o W a =
       aux-cal = λ there. start-unequal told (W 34) (auditEndOf W) (W 60) (a .w60) there .1;
     }
   where
-    starts : (x : ℕ) → (256 ≤ x) × ((x < 2147483648) × ((x < told) × ((x < W 34) ⊎ (auditEndOf W ≤ x)))) → IsBlockStart (areaLayoutOf told o W) x
+    starts : (x : ℕ) → (256 ≤ x) × ((x < 2147483648) × ((x < told) × ((x < W 34) ⊎ (auditEndOf W ≤ x)))) → IsBlockStart (areaLayoutOf o told W) x
     starts x p = record { from = p .0; signed = p .1 .0; to = p .1 .1 .0; outside = p .1 .1 .1 }
 
 -- a layout that opening a file of `told` bytes gives

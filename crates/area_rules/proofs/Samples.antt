@@ -55,7 +55,7 @@ module _ (l : AreaLayout) (fits : AreaFits l) where
         )
 
     -- it is inside DATA
-    pub sample-data : (l .start ≤ sampleAddress l i e s) × (sampleAddress l i e s + l .width ≤ dataEndIn l)
+    pub sample-data : (l .«data_start» ≤ sampleAddress l i e s) × (sampleAddress l i e s + l .width ≤ dataEndIn l)
     sample-data = (omega arith, omega (arith, sample-to, line-inside i (is .line)))
 
     -- and inside the file
@@ -64,17 +64,17 @@ module _ (l : AreaLayout) (fits : AreaFits l) where
 
     -- no sample is in the directory
     pub sample-directory : 256 ≤ sampleAddress l i e s
-    sample-directory = omega (arith, sample-data .0, fits .start-from)
+    sample-directory = omega (arith, sample-data .0, fits .data-start-from)
 
     -- it is at a multiple of the width from the start of DATA
-    pub sample-lattice : (j : ℕ) × (sampleAddress l i e s ≡ l .start + j * l .width)
+    pub sample-lattice : (j : ℕ) × (sampleAddress l i e s ≡ l .«data_start» + j * l .width)
     sample-lattice =
         let line = four-width (lineLengthIn l) (l .width) (fits .width) (fits .line-four) in
         let prefix = four-width (l .prefix) (l .width) (fits .width) (fits .prefix-four) in
         (i * line .0 + prefix .0 + (e * l .bands + s), lattice (line .0) (prefix .0) (line .1) (prefix .1))
       where
         lattice : (p q : ℕ) → lineLengthIn l ≡ p * l .width → l .prefix ≡ q * l .width
-            → sampleAddress l i e s ≡ l .start + (i * p + q + (e * l .bands + s)) * l .width
+            → sampleAddress l i e s ≡ l .«data_start» + (i * p + q + (e * l .bands + s)) * l .width
         lattice p q line prefix =
             omega (
               arith,
@@ -118,5 +118,5 @@ module _ (l : AreaLayout) (fits : AreaFits l) where
         let x = sample-lattice i e s is in
         let y = sample-lattice j d t it in
         rw (x .1, y .1)
-        (multiples-apart (l .start) (l .width) (x .0) (y .0)
-        (λ same. differ (sample-only (x .1 ∙ ap (λ (k : ℕ). l .start + k * l .width) same ∙ sym (y .1)))))
+        (multiples-apart (l .«data_start») (l .width) (x .0) (y .0)
+        (λ same. differ (sample-only (x .1 ∙ ap (λ (k : ℕ). l .«data_start» + k * l .width) same ∙ sym (y .1)))))

@@ -21,8 +21,8 @@ use Rattle.area_rules.proofs.Counts.{Counted, counts-exactly}
 
 -- ---- what each test says
 
-fourfold-exactly : (n : ℕ) → Exactly (multipleOfFour n) (n % 4 ≡ 0)
-fourfold-exactly n = eq-exactly (n % 4) 0
+multiple-exactly : (n : ℕ) → Exactly (multipleOfFour n) (n % 4 ≡ 0)
+multiple-exactly n = eq-exactly (n % 4) 0
 
 unequal-exactly : (a b : ℕ) → Exactly (not (eqb a b)) (¬ (a ≡ b))
 unequal-exactly a b = not-exactly (eq-exactly a b)
@@ -69,11 +69,11 @@ module _ (told : ℕ) (W : ℕ → ℕ) where
         w51 = k .w51;
         w61 = k .w61;
         w64 = k .w64;
-        fourfold49 = fourfold-exactly (W 49) .sound (shape .0);
-        fourfold50 = fourfold-exactly (W 50) .sound (shape .1 .0);
-        fourfold51 = fourfold-exactly (W 51) .sound (shape .1 .1 .0);
+        multiple49 = multiple-exactly (W 49) .sound (shape .0);
+        multiple50 = multiple-exactly (W 50) .sound (shape .1 .0);
+        multiple51 = multiple-exactly (W 51) .sound (shape .1 .1 .0);
         w15 = eq-exactly (W 15) (prefixLengthOf W) .sound (shape .1 .1 .1 .0);
-        line = fourfold-exactly (lineLengthOf W) .sound (shape .1 .1 .1 .1 .0);
+        line = multiple-exactly (lineLengthOf W) .sound (shape .1 .1 .1 .1 .0);
         entries = entries-exactly .sound (shape .1 .1 .1 .1 .1 .0);
         w34 = data-exactly .sound (place .0);
         w35 = nav-exactly .sound (place .1 .0);
@@ -89,11 +89,11 @@ module _ (told : ℕ) (W : ℕ → ℕ) where
   accepts-shapes : AcceptsAreaWords told W → Hold (areaShapeRules W)
   unfolding areaShapeRules
   accepts-shapes a =
-      also (fourfold-exactly (W 49) .complete (a .fourfold49))
-      (also (fourfold-exactly (W 50) .complete (a .fourfold50))
-      (also (fourfold-exactly (W 51) .complete (a .fourfold51))
+      also (multiple-exactly (W 49) .complete (a .multiple49))
+      (also (multiple-exactly (W 50) .complete (a .multiple50))
+      (also (multiple-exactly (W 51) .complete (a .multiple51))
       (also (eq-exactly (W 15) (prefixLengthOf W) .complete (a .w15))
-      (also (fourfold-exactly (lineLengthOf W) .complete (a .line))
+      (also (multiple-exactly (lineLengthOf W) .complete (a .line))
       (also (entries-exactly .complete (a .entries))
       tt)))))
 

@@ -9,12 +9,12 @@ use Rattle.endian_rules.specs.Words.{wordAt, AtLeast}
 use Rattle.endian_rules.specs.declared.Order.the-variants.{Big, Little}
 use Rattle.area_rules.specs.Rules.{directoryOf, wordIn, areaOrder, prefixLengthOf, lineLengthOf, auditEndOf}
 
--- "W11 is 1, 2 or 4"
+-- a sample may have n bytes: "W11 is 1, 2 or 4"
 abbrev pub IsWidth : ℕ → Type 0
 IsWidth n = (n ≡ 1) ⊎ ((n ≡ 2) ⊎ (n ≡ 4))
 
--- a block may start at x, in a file of `told` bytes with DATA and AUDIT from `start` to `end`: none, or a place as the rule asks; `Unequal` is
--- that it is unequal to an earlier one
+-- NAV, CAL or AUX may start at x, in a file of `told` bytes with DATA and AUDIT from `start` to `end`: there is no such block (0), or x is as the rule
+-- asks; `Unequal` is that x is unequal to the earlier ones
 abbrev pub BlockStartFits : ℕ → ℕ → ℕ → ℕ → Type 0 → Type 0
 BlockStartFits told start end x Unequal = (x ≡ 0) ⊎ (AtLeast 256 x × ((x < told) × (((x < start) ⊎ (end ≤ x)) × Unequal)))
 
@@ -30,9 +30,9 @@ pub record AcceptsAreaWords (told : ℕ) (W : ℕ → ℕ) : Type 0 where
   pub w51 : (0 ≤ W 51) × (W 51 ≤ 65535)
   pub w61 : (0 ≤ W 61) × (W 61 ≤ 65535)
   pub w64 : (0 ≤ W 64) × (W 64 ≤ 65535)
-  pub fourfold49 : W 49 % 4 ≡ 0
-  pub fourfold50 : W 50 % 4 ≡ 0
-  pub fourfold51 : W 51 % 4 ≡ 0
+  pub multiple49 : W 49 % 4 ≡ 0
+  pub multiple50 : W 50 % 4 ≡ 0
+  pub multiple51 : W 51 % 4 ≡ 0
   pub w15 : W 15 ≡ prefixLengthOf W
   pub line : lineLengthOf W % 4 ≡ 0
   pub entries : (¬ (W 60 ≡ 0)) ⊎ (W 61 ≡ 0)
@@ -41,7 +41,7 @@ pub record AcceptsAreaWords (told : ℕ) (W : ℕ → ℕ) : Type 0 where
   pub w63 : BlockStartFits told (W 34) (auditEndOf W) (W 63) (¬ (W 63 ≡ W 35))
   pub w60 : BlockStartFits told (W 34) (auditEndOf W) (W 60) ((¬ (W 60 ≡ W 35)) × (¬ (W 60 ≡ W 63)))
 
--- all rules, of the bytes d that a file of `told` bytes begins with
+-- A file of `told` bytes that begins with the bytes d is accepted: all rules hold.
 pub record AcceptsArea (told : ℕ) (d : List ℕ) : Type 0 where
   pub long : 256 ≤ told
   pub directory : 256 ≤ length d

@@ -21,20 +21,20 @@ bitOf n i = n / 2 ^ i % 2
 unfoldable pub mapBit : ℕ → ℕ → ℕ → ℕ
 mapBit w19 w20 i = pick (ltb i 32) (bitOf w19 i) (bitOf w20 (i - 32))
 
--- how many of the bits below bit n are set
+-- how many of the bits of the band map below bit n are set
 unfoldable pub setBelow : ℕ → ℕ → ℕ → ℕ
 setBelow w19 w20 zero = 0
 setBelow w19 w20 (suc n) = setBelow w19 w20 n + mapBit w19 w20 n
 
--- "The map is usable only if it has as many set bits as W14"
+-- whether a band map is usable: "only if it has as many set bits as W14"
 abbrev pub mapUsable : ℕ → ℕ → ℕ → Bool
 mapUsable w19 w20 w14 = eqb (setBelow w19 w20 64) w14
 
--- whether the map has band b
+-- whether a band map has band b
 abbrev pub hasBand : ℕ → ℕ → ℕ → Bool
 hasBand w19 w20 b = both (within 1 64 b) (eqb (mapBit w19 w20 (b - 1)) 1)
 
--- the rules of band b: 4 at 19 where the map is unusable, then 7 where it has no such band
+-- the rules of a call that names band b: 4 at 19 where the band map is unusable, then 7 where it has no such band
 unfoldable pub bandRules : ℕ → ℕ → ℕ → ℕ → List Rule
 bandRules w19 w20 w14 b = rule (mapUsable w19 w20 w14) 4 19 ∷ rule (hasBand w19 w20 b) 7 0 ∷ []
 
@@ -42,7 +42,7 @@ bandRules w19 w20 w14 b = rule (mapUsable w19 w20 w14) 4 19 ∷ rule (hasBand w1
 unfoldable pub bandSlot : ℕ → ℕ → ℕ → ℕ → Answer ℕ
 bandSlot w19 w20 w14 b = answered (firstFault (bandRules w19 w20 w14 b)) (setBelow w19 w20 (b - 1))
 
--- the slot that a channel means: a slot is one of the W14 slots of an element, and a band stands for its slot
+-- the slot that a caller means who names a slot or a band: a slot is one of the W14 slots of an element, and "a band stands for its slot"
 abbrev pub slotOf : AreaLayout → SlotOrBand → Answer ℕ
-slotOf l (Slot s) = answered (firstFault (rule (ltb s (l .bands)) 7 0 ∷ [])) s
-slotOf l (Band b) = bandSlot (l .map) (l .map2) (l .bands) b
+slotOf a (Slot s) = answered (firstFault (rule (ltb s (a .bands)) 7 0 ∷ [])) s
+slotOf a (Band b) = bandSlot (a .map) (a .map2) (a .bands) b

@@ -18,78 +18,79 @@ use Rattle.area_rules.specs.declared.Region.the-variants.{Validity, Docu
 
 -- ---- blocks
 
--- where a block starts; 0 for a NAV, CAL or AUX that is absent
+-- the byte at which a block starts; 0 for a NAV, CAL or AUX that is absent
 abbrev pub blockStart : AreaLayout → Block → ℕ
-blockStart l Dir = 0
-blockStart l Nav = l .nav
-blockStart l Cal = l .cal
-blockStart l Aux = l .aux
-blockStart l Data = l .start
-blockStart l Audit = dataEndIn l
+blockStart a Dir = 0
+blockStart a Nav = a .nav
+blockStart a Cal = a .cal
+blockStart a Aux = a .aux
+blockStart a Data = a .«data_start»
+blockStart a Audit = dataEndIn a
 
--- whether a block is present
+-- whether a file of the layout has a block: "0 means none"; AUDIT is "absent if W64 is 0"
 abbrev pub blockPresent : AreaLayout → Block → Bool
-blockPresent l Dir = true
-blockPresent l Nav = not (eqb (l .nav) 0)
-blockPresent l Cal = not (eqb (l .cal) 0)
-blockPresent l Aux = not (eqb (l .aux) 0)
-blockPresent l Data = true
-blockPresent l Audit = not (eqb (l .cards) 0)
+blockPresent a Dir = true
+blockPresent a Nav = not (eqb (a .nav) 0)
+blockPresent a Cal = not (eqb (a .cal) 0)
+blockPresent a Aux = not (eqb (a .aux) 0)
+blockPresent a Data = true
+blockPresent a Audit = not (eqb (a .cards) 0)
 
--- the start s where it is greater than x and before n, else n
+-- the start s where it is greater than x and before n, else n: one step of the search for the next greater start
 abbrev pub nearerStart : ℕ → ℕ → ℕ → ℕ
 nearerStart x s n = pick (both (ltb x s) (ltb s n)) s n
 
 -- the least of the starts that are greater than x, or else `end`
 unfoldable pub nextStart : ℕ → ℕ → List ℕ → ℕ
 nextStart x end [] = end
-nextStart x end (s ∷ blockStarts) = nearerStart x s (nextStart x end blockStarts)
+nextStart x end (s ∷ starts) = nearerStart x s (nextStart x end starts)
 
 -- the starts of NAV, CAL, AUX and DATA; one that is absent, 0, is greater than no start
 abbrev pub blockStarts : AreaLayout → List ℕ
-blockStarts l = l .nav ∷ l .cal ∷ l .aux ∷ l .start ∷ []
+blockStarts a = a .nav ∷ a .cal ∷ a .aux ∷ a .«data_start» ∷ []
 
 -- a number is one of a list
 abbrev pub Among : ℕ → List ℕ → Type 0
 Among s [] = ⊥
-Among s (x ∷ l) = (s ≡ x) ⊎ Among s l
+Among s (x ∷ xs) = (s ≡ x) ⊎ Among s xs
 
 -- the byte after a block
 abbrev pub blockEnd : AreaLayout → Block → ℕ
-blockEnd l Dir = 256
-blockEnd l Nav = nextStart (l .nav) (l .length) (blockStarts l)
-blockEnd l Cal = nextStart (l .cal) (l .length) (blockStarts l)
-blockEnd l Aux = nextStart (l .aux) (l .length) (blockStarts l)
-blockEnd l Data = dataEndIn l
-blockEnd l Audit = auditEndIn l
+blockEnd a Dir = 256
+blockEnd a Nav = nextStart (a .nav) (a .length) (blockStarts a)
+blockEnd a Cal = nextStart (a .cal) (a .length) (blockStarts a)
+blockEnd a Aux = nextStart (a .aux) (a .length) (blockStarts a)
+blockEnd a Data = dataEndIn a
+blockEnd a Audit = auditEndIn a
 
--- the same in document 01's words: a block that starts at x runs to n, the next greater start, or else the end of the file
-pub record BlockRunsTo (l : AreaLayout) (x n : ℕ) : Type 0 where
+-- a block that starts at x runs to n, in document 01's words: "to the next greater start among the present NAV, CAL, AUX and DATA, or else to the end of the
+-- file"
+pub record BlockRunsTo (a : AreaLayout) (x n : ℕ) : Type 0 where
   pub greater : x < n
-  pub start : Among n (blockStarts l) ⊎ (n ≡ l .length)
-  pub next : (s : ℕ) → Among s (blockStarts l) → x < s → n ≤ s
-  pub inside : n ≤ l .length
+  pub start : Among n (blockStarts a) ⊎ (n ≡ a .length)
+  pub next : (s : ℕ) → Among s (blockStarts a) → x < s → n ≤ s
+  pub inside : n ≤ a .length
 
--- the bytes of a block
+-- how many bytes a block has
 abbrev pub blockLength : AreaLayout → Block → ℕ
-blockLength l b = blockEnd l b - blockStart l b
+blockLength a b = blockEnd a b - blockStart a b
 
 -- ---- regions of a line prefix
 
--- the bytes of a region
+-- how many bytes a region of a line prefix has
 abbrev pub regionLength : AreaLayout → Region → ℕ
-regionLength l Validity = validityLength (l .plain)
-regionLength l Documentation = l .documentation
-regionLength l Calibration = l .calibration
-regionLength l BandList = l .list
+regionLength a Validity = validityLength (a .«no_validity_code»)
+regionLength a Documentation = a .documentation
+regionLength a Calibration = a .calibration
+regionLength a BandList = a .«band_list»
 
--- the bytes of the regions before it
+-- how many bytes the regions before a region have
 abbrev pub regionOffset : AreaLayout → Region → ℕ
-regionOffset l Validity = 0
-regionOffset l Documentation = regionLength l Validity
-regionOffset l Calibration = regionLength l Validity + regionLength l Documentation
-regionOffset l BandList = regionLength l Validity + regionLength l Documentation + regionLength l Calibration
+regionOffset a Validity = 0
+regionOffset a Documentation = regionLength a Validity
+regionOffset a Calibration = regionLength a Validity + regionLength a Documentation
+regionOffset a BandList = regionLength a Validity + regionLength a Documentation + regionLength a Calibration
 
--- where a region of line i starts
+-- the byte at which a region of the prefix of line l starts
 abbrev pub regionStart : AreaLayout → ℕ → Region → ℕ
-regionStart l i r = lineStart l i + regionOffset l r
+regionStart a l r = lineStart a l + regionOffset a r

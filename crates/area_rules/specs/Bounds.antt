@@ -7,13 +7,13 @@ use lib.Dec.{leb}
 use Rattle.lists.specs.Choices.{both}
 use Rattle.area_rules.specs.declared.AreaLayout.{AreaLayout}
 
--- lines, elements, bytes of a sample, bands
+-- whether lines, elements, bytes of a sample and bands of a layout are at most what opening accepts
 unfoldable pub areaBounded : AreaLayout → Bool
-areaBounded l = both (leb (l .lines) 65535) (both (leb (l .elements) 65535) (both (leb (l .width) 4) (leb (l .bands) 64)))
+areaBounded a = both (leb (a .lines) 65535) (both (leb (a .elements) 65535) (both (leb (a .width) 4) (leb (a .bands) 64)))
 
--- that they are
-pub record AreaBounds (l : AreaLayout) : Type 0 where
-  pub lines : l .lines ≤ 65535
-  pub elements : l .elements ≤ 65535
-  pub width : l .width ≤ 4
-  pub bands : l .bands ≤ 64
+-- lines, elements, bytes of a sample and bands of a layout are at most what opening accepts
+pub record AreaBounds (a : AreaLayout) : Type 0 where
+  pub lines : a .lines ≤ 65535
+  pub elements : a .elements ≤ 65535
+  pub width : a .width ≤ 4
+  pub bands : a .bands ≤ 64

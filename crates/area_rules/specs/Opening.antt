@@ -16,15 +16,15 @@ use Rattle.area_rules.specs.declared.AreaLayout.{AreaLayout}
 use Rattle.area_rules.specs.declared.AreaOpening.{AreaOpening}
 use Rattle.area_rules.specs.declared.AreaOpening.the-variants.{Opened, Refused}
 
--- what each case of an opening's answer says
+-- what each case of the answer of opening an AREA file says
 abbrev pub areaSays : AreaOpening → Answer AreaLayout
-areaSays (Opened l) = gives l
+areaSays (Opened a) = gives a
 areaSays (Refused r) = refuses (r .number) (r .place)
 
 -- the layout that the words of a file of `told` bytes give: "W9, W10, W11, W14, W15, W19, W20 (0 unless W14 is above 32), W34, W35, W49, W50, W51,
 -- W60, W63, W64, and whether W36 is 0"
-unfoldable pub areaLayoutOf : ℕ → Order → (ℕ → ℕ) → AreaLayout
-areaLayoutOf told o W =
+unfoldable pub areaLayoutOf : Order → ℕ → (ℕ → ℕ) → AreaLayout
+areaLayoutOf o told W =
     record {
       order = o;
       length = told;
@@ -35,56 +35,56 @@ areaLayoutOf told o W =
       prefix = W 15;
       map = W 19;
       map2 = pick (leb (W 14) 32) 0 (W 20);
-      start = W 34;
+      «data_start» = W 34;
       nav = W 35;
       documentation = W 49;
       calibration = W 50;
-      list = W 51;
+      «band_list» = W 51;
       aux = W 60;
       cal = W 63;
       cards = W 64;
-      plain = eqb (W 36) 0;
+      «no_validity_code» = eqb (W 36) 0;
     }
 
--- opening, of the words of a directory, where W2 reads 4 in an order
-unfoldable pub openAreaWords : ℕ → Order → (ℕ → ℕ) → Answer AreaLayout
-openAreaWords told o W = answered (firstFault (areaWordRules told W)) (areaLayoutOf told o W)
+-- opening a file of `told` bytes by the words of its directory, where W2 reads 4 in the byte order o
+unfoldable pub openAreaWords : Order → ℕ → (ℕ → ℕ) → Answer AreaLayout
+openAreaWords o told W = answered (firstFault (areaWordRules told W)) (areaLayoutOf o told W)
 
 -- opening a file of `told` bytes by the bytes d that it begins with
 unfoldable pub openAreaTold : ℕ → List ℕ → Answer AreaLayout
-openAreaTold told d = answered (firstFault (areaRules told d)) (areaLayoutOf told (areaOrder d) (wordIn (directoryOf (areaOrder d) d)))
+openAreaTold told d = answered (firstFault (areaRules told d)) (areaLayoutOf (areaOrder d) told (wordIn (directoryOf (areaOrder d) d)))
 
--- opening a file
+-- opening an AREA file that is at hand whole
 unfoldable pub openArea : List ℕ → Answer AreaLayout
 openArea f = openAreaTold (length f) f
 
--- a number for a test
+-- a number for a test, by which two tests are compared
 abbrev pub flagNumber : Bool → ℕ
 flagNumber t = pick t 1 0
 
--- a layout's fields as numbers
+-- the fields of an AREA layout as numbers
 abbrev pub areaNumbers : AreaLayout → List ℕ
-areaNumbers l =
-    orderNumber (l .order)
-    ∷ l .length
-    ∷ l .lines
-    ∷ l .elements
-    ∷ l .width
-    ∷ l .bands
-    ∷ l .prefix
-    ∷ l .map
-    ∷ l .map2
-    ∷ l .start
-    ∷ l .nav
-    ∷ l .documentation
-    ∷ l .calibration
-    ∷ l .list
-    ∷ l .aux
-    ∷ l .cal
-    ∷ l .cards
-    ∷ flagNumber (l .plain)
+areaNumbers a =
+    orderNumber (a .order)
+    ∷ a .length
+    ∷ a .lines
+    ∷ a .elements
+    ∷ a .width
+    ∷ a .bands
+    ∷ a .prefix
+    ∷ a .map
+    ∷ a .map2
+    ∷ a .«data_start»
+    ∷ a .nav
+    ∷ a .documentation
+    ∷ a .calibration
+    ∷ a .«band_list»
+    ∷ a .aux
+    ∷ a .cal
+    ∷ a .cards
+    ∷ flagNumber (a .«no_validity_code»)
     ∷ []
 
--- whether two layouts are the same
+-- whether two AREA layouts are the same in every field
 unfoldable pub sameArea : AreaLayout → AreaLayout → Bool
 sameArea a b = sameNumbers (areaNumbers a) (areaNumbers b)

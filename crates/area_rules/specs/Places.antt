@@ -13,22 +13,23 @@ use Rattle.area_rules.specs.Bands.{slotOf}
 use Rattle.area_rules.specs.declared.SlotOrBand.{SlotOrBand}
 use Rattle.area_rules.specs.Bounds.{areaBounded}
 
--- line i begins inside DATA, or, for W9, where DATA ends
+-- the rules of the start of line l: 7 where there is no such line; line W9, the one behind the last, would begin where DATA ends, and counts here
 unfoldable pub lineRules : AreaLayout → ℕ → List Rule
-lineRules l i = rule (areaBounded l) 7 0 ∷ rule (leb i (l .lines)) 7 0 ∷ []
+lineRules a l = rule (areaBounded a) 7 0 ∷ rule (leb l (a .lines)) 7 0 ∷ []
 
--- where it begins
+-- the byte at which line l begins, or the refusal
 unfoldable pub lineStartOf : AreaLayout → ℕ → Answer ℕ
-lineStartOf l i = answered (firstFault (lineRules l i)) (lineStart l i)
+lineStartOf a l = answered (firstFault (lineRules a l)) (lineStart a l)
 
--- there is such a line and element
+-- the rules of a sample of line l and element e: 7 where there is no such line or element
 unfoldable pub sampleRules : AreaLayout → ℕ → ℕ → List Rule
-sampleRules l i e =
-    rule (areaBounded l) 7 0
-    ∷ rule (ltb i (l .lines)) 7 0
-    ∷ rule (ltb e (l .elements)) 7 0
+sampleRules a l e =
+    rule (areaBounded a) 7 0
+    ∷ rule (ltb l (a .lines)) 7 0
+    ∷ rule (ltb e (a .elements)) 7 0
     ∷ []
 
--- the sample of line i, element e and a channel, W11 bytes: the channel has a slot (4 at 19, 7), and there is such a line and element
+-- the place of the sample of line l, element e and a slot or band b, W11 bytes, or the refusal: first that of the slot or band (4 at 19, 7), then 7 where there is
+-- no such line or element
 unfoldable pub samplePlace : AreaLayout → ℕ → ℕ → SlotOrBand → Answer Place
-samplePlace l i e c = andThen (slotOf l c) (λ s. answered (firstFault (sampleRules l i e)) (place (sampleAddress l i e s) (l .width)))
+samplePlace a l e b = andThen (slotOf a b) (λ s. answered (firstFault (sampleRules a l e)) (place (sampleAddress a l e s) (a .width)))

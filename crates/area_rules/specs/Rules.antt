@@ -22,29 +22,29 @@ use Rattle.area_rules.specs.Lines.{prefixLength, lineLength, auditEnd}
 unfoldable pub directoryOf : Order → List ℕ → List ℕ
 directoryOf o f = listOf (wordAt o f) 64
 
--- word k of them
+-- word k, counted from 1, of a directory's 64 words
 unfoldable pub wordIn : List ℕ → ℕ → ℕ
 wordIn words k = getD words (k - 1) 0
 
--- "AREA's byte order is the one in which word 2 reads 4": whether an order is
+-- whether word 2 of a file reads 4 in a byte order
 abbrev pub readsFour : Order → List ℕ → Bool
 readsFour o f = eqb (wordAt o f 1) 4
 
--- that order
+-- the byte order of a file: "AREA's byte order is the one in which word 2 reads 4"
 abbrev pub areaOrder : List ℕ → Order
 areaOrder f = pick (readsFour Big f) Big Little
 
 -- ---- the counts: refusal 3
 
--- a count is within its bounds
+-- the rule of a count: word k is within its bounds, and refusal 3 at the word where it is not
 abbrev pub areaCount : (ℕ → ℕ) → ℕ → ℕ → ℕ → Rule
 areaCount W k low high = rule (within low high (W k)) 3 k
 
--- "W11 is 1, 2 or 4"
+-- whether a sample may have n bytes: "W11 is 1, 2 or 4"
 abbrev pub isWidth : ℕ → Bool
 isWidth n = either (eqb n 1) (either (eqb n 2) (eqb n 4))
 
--- the counts, in document 01's order
+-- the rules of the counts: "counts W9, W10, W11, W14, W49, W50, W51, W61, W64"
 unfoldable pub areaCountRules : (ℕ → ℕ) → List Rule
 areaCountRules W =
     areaCount W 9 1 65535
@@ -60,7 +60,7 @@ areaCountRules W =
 
 -- ---- the words that have a rule: refusal 4
 
--- a multiple of four
+-- whether a number is a multiple of four
 abbrev pub multipleOfFour : ℕ → Bool
 multipleOfFour n = eqb (n % 4) 0
 
@@ -72,7 +72,7 @@ prefixLengthOf W = prefixLength (eqb (W 36) 0) (W 49) (W 50) (W 51)
 abbrev pub lineLengthOf : (ℕ → ℕ) → ℕ
 lineLengthOf W = lineLength (W 15) (W 14) (W 10) (W 11)
 
--- W49, W50 and W51 as multiples of four; W15; the line length, at place 10; W61 zero if W60 is zero
+-- the rules of the words that follow from others: "W49, W50, W51 as multiples of four; W15; line length (place 10); W61 zero if W60 is zero"
 unfoldable pub areaShapeRules : (ℕ → ℕ) → List Rule
 areaShapeRules W =
     rule (multipleOfFour (W 49)) 4 49
@@ -85,20 +85,20 @@ areaShapeRules W =
 
 -- ---- the places: refusal 5, in a file of `told` bytes
 
--- the byte after AUDIT
+-- the byte after AUDIT that the words give
 abbrev pub auditEndOf : (ℕ → ℕ) → ℕ
 auditEndOf W = auditEnd (W 34) (W 9) (lineLengthOf W) (W 64)
 
--- a byte is not inside DATA or AUDIT
+-- whether byte x is not inside DATA or AUDIT
 abbrev pub outsideDataAndAudit : (ℕ → ℕ) → ℕ → Bool
 outsideDataAndAudit W x = either (ltb x (W 34)) (leb (auditEndOf W) x)
 
--- a block may start at x: "each 0, or at least 256, before the end of the file, not inside DATA or AUDIT, and unequal to an earlier one";
--- `unequal` is whether it is
+-- whether NAV, CAL or AUX may start at x: "each 0, or at least 256, before the end of the file, not inside DATA or AUDIT, and unequal to an earlier one";
+-- `unequal` is whether x is unequal to the earlier ones
 abbrev pub blockStartFits : ℕ → (ℕ → ℕ) → ℕ → Bool → Bool
 blockStartFits told W x unequal = either (eqb x 0) (both (atLeast 256 x) (both (ltb x told) (both (outsideDataAndAudit W x) unequal)))
 
--- W34 at least 256 with DATA and AUDIT inside the file; then W35, W63, W60
+-- the rules of the places: "W34 at least 256 with DATA and AUDIT inside the file (place 34); then W35, W63, W60"
 unfoldable pub areaPlaceRules : ℕ → (ℕ → ℕ) → List Rule
 areaPlaceRules told W =
     rule (both (atLeast 256 (W 34)) (leb (auditEndOf W) told)) 5 34
@@ -109,15 +109,15 @@ areaPlaceRules told W =
 
 -- ---- the table
 
--- the checks that a directory's words alone settle
+-- the checks that a directory's words alone settle, whatever the length of the file: those of the counts, and of the words that follow from others
 unfoldable pub areaDescribedRules : (ℕ → ℕ) → List Rule
 areaDescribedRules W = areaCountRules W ++ areaShapeRules W
 
--- all checks of the words but W2
+-- all checks of a directory's words but that of W2, in a file of `told` bytes
 unfoldable pub areaWordRules : ℕ → (ℕ → ℕ) → List Rule
 areaWordRules told W = areaDescribedRules W ++ areaPlaceRules told W
 
--- All checks, of the bytes d that a file of `told` bytes begins with. The directory is bytes 0 to 255: fewer of them are no directory, as in a file
+-- All checks of a file of `told` bytes that begins with the bytes d. "The directory is bytes 0 to 255": fewer of them are no directory, as in a file
 -- that is shorter.
 unfoldable pub areaRules : ℕ → List ℕ → List Rule
 areaRules told d =

@@ -11,72 +11,72 @@ use Rattle.area_rules.specs.Accepts.{IsWidth}
 use Rattle.area_rules.specs.Rules.{areaOrder}
 use Rattle.area_rules.specs.declared.AreaLayout.{AreaLayout}
 
--- the bytes of a line
+-- the line length of a layout
 abbrev pub lineLengthIn : AreaLayout → ℕ
-lineLengthIn l = lineLength (l .prefix) (l .bands) (l .elements) (l .width)
+lineLengthIn a = lineLength (a .prefix) (a .bands) (a .elements) (a .width)
 
--- the byte after DATA
+-- the byte after DATA, by a layout
 abbrev pub dataEndIn : AreaLayout → ℕ
-dataEndIn l = areaDataEnd (l .start) (l .lines) (lineLengthIn l)
+dataEndIn a = areaDataEnd (a .«data_start») (a .lines) (lineLengthIn a)
 
--- the byte after AUDIT
+-- the byte after AUDIT, by a layout
 abbrev pub auditEndIn : AreaLayout → ℕ
-auditEndIn l = auditEnd (l .start) (l .lines) (lineLengthIn l) (l .cards)
+auditEndIn a = auditEnd (a .«data_start») (a .lines) (lineLengthIn a) (a .cards)
 
--- where line i begins, with its prefix
+-- the byte at which line l begins, with its prefix
 abbrev pub lineStart : AreaLayout → ℕ → ℕ
-lineStart l i = l .start + i * lineLengthIn l
+lineStart a l = a .«data_start» + l * lineLengthIn a
 
 -- "The sample of line l, element e, slot s (all from 0) is at W34 + l·(line length) + W15 + (e·W14 + s)·W11"
 abbrev pub sampleAddress : AreaLayout → ℕ → ℕ → ℕ → ℕ
-sampleAddress l i e s = lineStart l i + l .prefix + (e * l .bands + s) * l .width
+sampleAddress a l e s = lineStart a l + a .prefix + (e * a .bands + s) * a .width
 
--- there is such a sample
-pub record IsSample (l : AreaLayout) (i e s : ℕ) : Type 0 where
-  pub line : i < l .lines
-  pub element : e < l .elements
-  pub slot : s < l .bands
+-- a file of the layout has a sample of line l, element e, slot s
+pub record IsSample (a : AreaLayout) (l e s : ℕ) : Type 0 where
+  pub line : l < a .lines
+  pub element : e < a .elements
+  pub slot : s < a .bands
 
--- an optional block starts after the directory, before the end of the file, and outside DATA and AUDIT
-pub record IsBlockStart (l : AreaLayout) (x : ℕ) : Type 0 where
+-- x is where NAV, CAL or AUX may start: after the directory, before the end of the file, and outside DATA and AUDIT
+pub record IsBlockStart (a : AreaLayout) (x : ℕ) : Type 0 where
   pub from : 256 ≤ x
   pub signed : x < 2147483648
-  pub to : x < l .length
-  pub outside : (x < l .start) ⊎ (auditEndIn l ≤ x)
+  pub to : x < a .length
+  pub outside : (x < a .«data_start») ⊎ (auditEndIn a ≤ x)
 
--- What is known of the layout of an accepted file: both bounds of every field, that DATA and AUDIT are inside the file, and where the other blocks
+-- What is known of the layout of an accepted AREA file: both bounds of every field, that DATA and AUDIT are inside the file, and where the other blocks
 -- may start. Every later address rests on this, and not on the rules.
-pub record AreaFits (l : AreaLayout) : Type 0 where
-  pub lines-from : 1 ≤ l .lines
-  pub lines-to : l .lines ≤ 65535
-  pub elements-from : 1 ≤ l .elements
-  pub elements-to : l .elements ≤ 65535
-  pub width : IsWidth (l .width)
-  pub bands-from : 1 ≤ l .bands
-  pub bands-to : l .bands ≤ 64
-  pub documentation-to : l .documentation ≤ 65535
-  pub calibration-to : l .calibration ≤ 65535
-  pub list-to : l .list ≤ 65535
-  pub cards-to : l .cards ≤ 65535
-  pub prefix : l .prefix ≡ prefixLength (l .plain) (l .documentation) (l .calibration) (l .list)
+pub record AreaFits (a : AreaLayout) : Type 0 where
+  pub lines-from : 1 ≤ a .lines
+  pub lines-to : a .lines ≤ 65535
+  pub elements-from : 1 ≤ a .elements
+  pub elements-to : a .elements ≤ 65535
+  pub width : IsWidth (a .width)
+  pub bands-from : 1 ≤ a .bands
+  pub bands-to : a .bands ≤ 64
+  pub documentation-to : a .documentation ≤ 65535
+  pub calibration-to : a .calibration ≤ 65535
+  pub band-list-to : a .«band_list» ≤ 65535
+  pub cards-to : a .cards ≤ 65535
+  pub prefix : a .prefix ≡ prefixLength (a .«no_validity_code») (a .documentation) (a .calibration) (a .«band_list»)
   -- a line and its prefix are multiples of four
-  pub prefix-four : l .prefix % 4 ≡ 0
-  pub line-four : lineLengthIn l % 4 ≡ 0
+  pub prefix-four : a .prefix % 4 ≡ 0
+  pub line-four : lineLengthIn a % 4 ≡ 0
   -- W20 counts only where there are more than 32 bands
-  pub second-map : l .bands ≤ 32 → l .map2 ≡ 0
-  pub start-from : 256 ≤ l .start
-  pub start-signed : l .start < 2147483648
-  pub room : auditEndIn l ≤ l .length
+  pub second-map : a .bands ≤ 32 → a .map2 ≡ 0
+  pub data-start-from : 256 ≤ a .«data_start»
+  pub data-start-signed : a .«data_start» < 2147483648
+  pub room : auditEndIn a ≤ a .length
   -- a block that is not absent (0) starts where it may, and no two start at one place
-  pub nav : ¬ (l .nav ≡ 0) → IsBlockStart l (l .nav)
-  pub cal : ¬ (l .cal ≡ 0) → IsBlockStart l (l .cal)
-  pub aux : ¬ (l .aux ≡ 0) → IsBlockStart l (l .aux)
-  pub cal-nav : ¬ (l .cal ≡ 0) → ¬ (l .cal ≡ l .nav)
-  pub aux-nav : ¬ (l .aux ≡ 0) → ¬ (l .aux ≡ l .nav)
-  pub aux-cal : ¬ (l .aux ≡ 0) → ¬ (l .aux ≡ l .cal)
+  pub nav : ¬ (a .nav ≡ 0) → IsBlockStart a (a .nav)
+  pub cal : ¬ (a .cal ≡ 0) → IsBlockStart a (a .cal)
+  pub aux : ¬ (a .aux ≡ 0) → IsBlockStart a (a .aux)
+  pub cal-nav : ¬ (a .cal ≡ 0) → ¬ (a .cal ≡ a .nav)
+  pub aux-nav : ¬ (a .aux ≡ 0) → ¬ (a .aux ≡ a .nav)
+  pub aux-cal : ¬ (a .aux ≡ 0) → ¬ (a .aux ≡ a .cal)
 
--- the layout of a file: its order and length, and what is known of it
-pub record AreaOf (f : List ℕ) (l : AreaLayout) : Type 0 where
-  pub order : l .order ≡ areaOrder f
-  pub size : l .length ≡ length f
-  pub fits : AreaFits l
+-- the layout a is one of the file f: its byte order and length are the file's, and what is known of an accepted file's layout holds of it
+pub record AreaOf (f : List ℕ) (a : AreaLayout) : Type 0 where
+  pub order : a .order ≡ areaOrder f
+  pub size : a .length ≡ length f
+  pub fits : AreaFits a

@@ -62,15 +62,15 @@ layoutP =
       prefix = 0;
       map = 0;
       map2 = 0;
-      start = 256;
+      «data_start» = 256;
       nav = 0;
       documentation = 0;
       calibration = 0;
-      list = 0;
+      «band_list» = 0;
       aux = 0;
       cal = 0;
       cards = 0;
-      plain = true;
+      «no_validity_code» = true;
     }
 
 -- the layout of B
@@ -86,15 +86,15 @@ layoutB =
       prefix = 16;
       map = 0;
       map2 = 0;
-      start = 384;
+      «data_start» = 384;
       nav = 256;
       documentation = 8;
       calibration = 0;
-      list = 4;
+      «band_list» = 4;
       aux = 0;
       cal = 0;
       cards = 1;
-      plain = false;
+      «no_validity_code» = false;
     }
 
 -- they have the sizes that document 01 gives, and these layouts

@@ -18,15 +18,15 @@ pub struct AreaLayout {
     pub prefix: u32,
     pub map: u32,
     pub map2: u32,
-    pub start: u32,
+    pub data_start: u32,
     pub nav: u32,
     pub documentation: u32,
     pub calibration: u32,
-    pub list: u32,
+    pub band_list: u32,
     pub aux: u32,
     pub cal: u32,
     pub cards: u32,
-    pub plain: bool,
+    pub no_validity_code: bool,
 }
 
 // What opening an AREA file answers: its layout, or a refusal.

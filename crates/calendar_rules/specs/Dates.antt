@@ -20,11 +20,11 @@ abbrev pub dateSays : DateAnswer → Answer Date
 dateSays (On d) = gives d
 dateSays (Refused r) = refuses (r .number) (r .place)
 
--- the year that a word holds
+-- the year that a date word holds
 abbrev pub yearOf : ℤ → ℕ
 yearOf word = 1900 + natAbs word / 1000
 
--- the day of the year that it holds
+-- the day of the year that a date word holds
 abbrev pub dayOf : ℤ → ℕ
 dayOf word = natAbs word % 1000
 

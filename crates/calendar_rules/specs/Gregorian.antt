@@ -8,7 +8,7 @@ use lib.ListN.{getD}
 use Rattle.lists.specs.Choices.{pick, both, either}
 use Rattle.calendar_rules.specs.declared.Date.{Date}
 
--- a year is a leap year if four divides it, but not if a hundred does, unless four hundred does
+-- whether a year is a leap year: four divides it, but not a hundred, unless four hundred does
 unfoldable pub leap : ℕ → Bool
 leap year = both (eqb (year % 4) 0) (either (not (eqb (year % 100) 0)) (eqb (year % 400) 0))
 
@@ -25,14 +25,14 @@ daysBefore isLeap (suc month) = daysBefore isLeap month + getD (monthLengths isL
 abbrev pub yearLength : Bool → ℕ
 yearLength isLeap = daysBefore isLeap 12
 
--- a day of some year: its month is from 1 to 12, and its day from 1 to the last of that month
+-- d is a date of the calendar: its month is from 1 to 12, and its day from 1 to the last of that month
 pub record IsDate (d : Date) : Type 0 where
   pub month-from : 1 ≤ d .month
   pub month-to : d .month ≤ 12
   pub day-from : 1 ≤ d .day
   pub day-to : d .day ≤ getD (monthLengths (leap (d .year))) (d .month - 1) 0
 
--- the day of the year, counted from 1
+-- the day of the year of a date, counted from 1
 abbrev pub dayOfYear : Date → ℕ
 dayOfYear d = daysBefore (leap (d .year)) (d .month - 1) + d .day
 
@@ -45,7 +45,7 @@ lastBefore isLeap day (suc month) = pick (ltb (daysBefore isLeap (suc month)) da
 abbrev pub monthOf : Bool → ℕ → ℕ
 monthOf isLeap day = lastBefore isLeap day 11
 
--- the date of a day of the year
+-- the date of a day of a year
 unfoldable pub dateIn : ℕ → ℕ → Date
 dateIn year day =
     record {

@@ -17,7 +17,7 @@ abbrev pub timeSays : TimeAnswer → Answer TimeOfDay
 timeSays (At t) = gives t
 timeSays (Refused r) = refuses (r .number) (r .place)
 
--- the hours, minutes and seconds that a word holds
+-- the hours, minutes and seconds that a time word holds
 abbrev pub timeIn : ℤ → TimeOfDay
 timeIn word = record { hours = natAbs word / 10000; minutes = natAbs word / 100 % 100; seconds = natAbs word % 100 }
 

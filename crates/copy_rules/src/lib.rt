@@ -8,7 +8,7 @@ pub struct Strided {
     pub count: usize,
 }
 
-// WordLines of words: so many lines, the first at a byte, each `across` bytes behind the one before; in a line so many words, each `along` bytes behind the
+// Lines of words: so many lines, the first at a byte, each `across` bytes behind the one before; in a line so many words, each `along` bytes behind the
 // one before.
 pub struct WordLines {
     pub at: usize,

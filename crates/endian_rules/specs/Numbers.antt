@@ -22,16 +22,16 @@ abbrev pub ordered : Order → List ℕ → List ℕ
 ordered Big l = reverse l
 ordered Little l = l
 
--- where digit k of w stands among the bytes
+-- the index, among the w bytes of a number, of its digit k; digit 0 is the least significant
 abbrev pub position : Order → ℕ → ℕ → ℕ
 position Big w k = w - 1 - k
 position Little w k = k
 
--- the number that bytes stand for
+-- the number that bytes of a file stand for, in a byte order
 unfoldable pub decode : Order → List ℕ → ℕ
 decode o bytes = value (ordered o bytes)
 
--- the w low bytes of a number
+-- the w low bytes of a number, as a file in a byte order has them
 unfoldable pub encode : Order → ℕ → ℕ → List ℕ
 encode o w n = ordered o (digits w n)
 

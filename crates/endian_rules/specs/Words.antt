@@ -15,11 +15,11 @@ use Rattle.endian_rules.specs.Numbers.{encode, numberAt}
 use Rattle.endian_rules.specs.declared.Order.{Order}
 use Rattle.endian_rules.specs.declared.Order.the-variants.{Big, Little}
 
--- the word at byte `at` of a file
+-- the signed word at byte `at` of a file
 abbrev pub signedAt : Order → List ℕ → ℕ → ℤ
 signedAt o f at = toZ w32 (numberAt o 4 f at)
 
--- the bytes of a word
+-- the four bytes of a signed word
 abbrev pub encodeSigned : Order → ℤ → List ℕ
 encodeSigned o v = encode o 4 (ofZ w32 v)
 
@@ -31,11 +31,11 @@ wordAt o f k = numberAt o 4 f (4 * k)
 unfoldable pub atLeast : ℕ → ℕ → Bool
 atLeast low n = both (leb low n) (ltb n 2147483648)
 
--- that it is
+-- a raw word is, as the signed word that it is, at least `low`
 abbrev pub AtLeast : ℕ → ℕ → Type 0
 AtLeast low n = pos low ≤ℤ toZ w32 n
 
--- a number for each byte order
+-- a number for each byte order, by which two orders are compared
 abbrev pub orderNumber : Order → ℕ
 orderNumber Big = 0
 orderNumber Little = 1

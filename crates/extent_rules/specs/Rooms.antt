@@ -19,11 +19,11 @@ lastEnd = 2147483647
 unfoldable pub fitsAt : (ℕ → ℕ) → ℕ → ℕ → ℕ → Bool
 fitsAt w whole need a = both (leb (a + need) whole) (both (leb (a + need) lastEnd) (noGridHas w a (a + need)))
 
--- the lowest such address from 12 + n on; `whole` where there is none
+-- the lowest address from 12 + n on at which so many words have room; `whole` where there is none
 unfoldable pub lowestAddress : (ℕ → ℕ) → ℕ → ℕ → ℕ
 lowestAddress w whole need = lowest (fitsAt w whole need) (firstWord w) (whole - firstWord w)
 
--- whether there is one
+-- whether there is an address at which so many words have room
 abbrev pub hasRoom : (ℕ → ℕ) → ℕ → ℕ → Bool
 hasRoom w whole need = ltb (lowestAddress w whole need) whole
 
@@ -33,7 +33,7 @@ hasRoom w whole need = ltb (lowestAddress w whole need) whole
 abbrev pub fitsIn : ℕ → Extent → Bool
 fitsIn need e = both (leb need (e .length)) (leb (e .start + need) lastEnd)
 
--- what was found, if something was, else e if so many words fit into it
+-- one step of a search first fit: what was found so far, if something was, else e if so many words fit into it
 unfoldable pub firstFitting : ℕ → Extent → Extent → Extent
 firstFitting need found e = pick (ltb 0 (found .length)) found (pick (fitsIn need e) e found)
 

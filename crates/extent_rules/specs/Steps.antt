@@ -18,11 +18,11 @@ use Rattle.extent_rules.specs.Rooms.{searched}
 use Rattle.extent_rules.specs.declared.Extent.{Extent}
 use Rattle.extent_rules.specs.declared.Survey.{Survey}
 
--- the file is accepted
+-- the file, as a GRID file in a byte order, is accepted
 abbrev pub GridAccepted : Order → List ℕ → Type 0
 GridAccepted o f = firstFault (gridFileRules (length f) (wordAt o f)) ≡ Pass
 
--- what reading the slots of a file of `len` bytes asks: that the directory is inside the file, and each grid
+-- the directory of a file of `len` bytes is inside the file, and so is each grid: what reading its slots asks
 pub record SlotsInside (len : ℕ) (w : ℕ → ℕ) : Type 0 where
   pub few : w 10 ≤ 1024
   pub room : 12 + w 10 ≤ len / 4
@@ -49,7 +49,7 @@ runAfter w whole p = runFrom w whole (lowestFree w whole p)
 unfoldable pub directoryExtent : Order → List ℕ → Extent
 directoryExtent o f = pick (leb 44 (length f)) (extent 0 (firstWord (wordAt o f))) noWords
 
--- the runs one after another: the directory, and then each time the first run behind the one before
+-- run number i of a file, the runs one after another: the directory for 0, and then each time the first run behind the one before
 unfoldable pub nthRun : Order → List ℕ → ℕ → Extent
 nthRun o f zero = directoryExtent o f
 nthRun o f (suc i) = runAfter (wordAt o f) (length f / 4) (extentEnd (nthRun o f i))
@@ -58,7 +58,7 @@ nthRun o f (suc i) = runAfter (wordAt o f) (length f / 4) (extentEnd (nthRun o f
 abbrev pub runsOver : Order → List ℕ → ℕ → List Extent → List Extent
 runsOver o f count t = over (listOf (λ i. nthRun o f (suc i)) count) t
 
--- what a search of these for so many words finds, and the table
+-- what a search first fit for so many words finds in such a table, and the table
 abbrev pub searchedOver : Order → List ℕ → ℕ → ℕ → List Extent → Extent × List Extent
 searchedOver o f count need t = (searched (runsOver o f count t) need count, runsOver o f count t)
 

@@ -14,11 +14,11 @@ use Rattle.lists.specs.Lowest.{lowest}
 use Rattle.grid_rules.specs.Rules.{isEmptySlot, shares}
 use Rattle.extent_rules.specs.declared.Extent.{Extent}
 
--- so many words from a start on
+-- the extent of so many words from a start on
 abbrev pub extent : ℕ → ℕ → Extent
 extent start size = record { start = start; length = size }
 
--- no words
+-- the extent of no words
 abbrev pub noWords : Extent
 noWords = extent 0 0
 
@@ -26,7 +26,7 @@ noWords = extent 0 0
 abbrev pub extentEnd : Extent → ℕ
 extentEnd e = e .start + e .length
 
--- the words of slot k's grid; none where the slot is empty
+-- the extent of the grid of slot k; no words where the slot is empty
 unfoldable pub slotExtent : (ℕ → ℕ) → ℕ → Extent
 slotExtent w k = pick (isEmptySlot w k) noWords (extent (w (11 + k)) (64 + w (w (11 + k))))
 
@@ -71,7 +71,7 @@ stretchAt w whole p = pick (stretchStarts w p) (runFrom w whole p ∷ []) []
 unfoldable pub freeStretches : (ℕ → ℕ) → ℕ → List Extent
 freeStretches w whole = linesOf (λ i. stretchAt w whole (firstWord w + i)) (whole - firstWord w)
 
--- That an extent is a longest run of free words: it has a word, all its words are free and from 12 + n to the file's last whole word, and neither the word
+-- e is a longest run of free words: it has a word, all its words are free and from 12 + n to the file's last whole word, and neither the word
 -- before it nor the one behind it is such a word.
 pub record LongestRun (w : ℕ → ℕ) (whole : ℕ) (e : Extent) : Type 0 where
   pub some : 1 ≤ e .length

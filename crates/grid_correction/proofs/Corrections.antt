@@ -1,4 +1,4 @@
--- ValueName the corrections of the example give: a corrected point reads back its value, and two corrections of different points may be made in either order.
+-- What the corrections of the example give: a corrected point reads back its value, and two corrections of different points may be made in either order.
 -- Assumes nothing.
 use mathlib.Core.Path.{_≡_, refl, sym, ap, subst, _∙_}
 use mathlib.Core.List.{List, [], _∷_, List·Memᴰ·head, List·Memᴰ·tail, List·Memᴰ·not-nil, List·Permᴰ·swap, Permᴰ·refl}

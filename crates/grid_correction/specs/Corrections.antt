@@ -15,12 +15,12 @@ use Rattle.store_rules.specs.Answers.{storeSays}
 use Rattle.grid_correction.specs.declared.Correction.{Correction}
 use Rattle.grid_correction.specs.declared.TwoAnswers.{TwoAnswers}
 
--- the old value and the file afterwards, where opening answers a layout; else the refusal and the file as it was
+-- the value that a point had and the file after its correction, where opening answers a layout; else the refusal and the file as it was
 abbrev pub correctedBy : List ℕ → Answer Layout → ℕ → ℕ → ℤ → Answer ℤ × List ℕ
 correctedBy f (gives l) r c v = (readPoint f l r c, storePoint f l r c v .1)
 correctedBy f (refuses n p) r c v = (refuses n p, f)
 
--- a point that is corrected
+-- what correcting a point of a grid answers, and the file that it leaves
 abbrev pub correctPoint : List ℕ → Order → ℕ → ℕ → ℕ → ℤ → Answer ℤ × List ℕ
 correctPoint f o g r c v = correctedBy f (mapped Grid (openGrid o f g)) r c v
 
@@ -32,6 +32,6 @@ storeOf l x = record { layout = l; request = point (x .row) (x .column) (x .valu
 abbrev pub twoSay : TwoAnswers → List Done
 twoSay r = storeSays (r .first) ∷ storeSays (r .second) ∷ []
 
--- two corrections, one after the other: a series of stores, as promise 3 speaks of them
+-- what two corrections, one after the other, answer, and the file that they leave: a series of stores, as demand 3 speaks of them
 abbrev pub correctTwo : List ℕ → Layout → Correction → Correction → List Done × List ℕ
 correctTwo f l x y = (replies storesIn f (storeOf l x ∷ storeOf l y ∷ []), leaves storesIn f (storeOf l x ∷ storeOf l y ∷ []))

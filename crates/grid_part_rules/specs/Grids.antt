@@ -14,7 +14,7 @@ use Rattle.copy_rules.specs.Runs.{copied}
 use Rattle.span_rules.specs.Spans.{span}
 use Rattle.span_rules.specs.declared.Span.{Span}
 
--- the header of a grid: 64 words from header word 1 on
+-- the span of the header of a grid, which is 64 words from header word 1 on, or the refusal
 abbrev pub headerSpan : List ℕ → Layout → Answer Span
 headerSpan f l = mapped (λ g. span (4 * headerWord g 1) 256) (gridOf f l)
 
@@ -26,13 +26,14 @@ pointAt f g r c = signedAt (g .order) f (4 * pointWord g r c)
 unfoldable pub byColumns : List ℕ → GridLayout → List ℤ
 byColumns f g = linesOf (λ c. listOf (λ r. pointAt f g (r + 1) (c + 1)) (g .rows)) (g .columns)
 
--- row by row: row 1 from column 1 on, then row 2
+-- the points of a grid row by row: row 1 from column 1 on, then row 2
 unfoldable pub byRows : List ℕ → GridLayout → List ℤ
 byRows f g = linesOf (λ r. listOf (λ c. pointAt f g (r + 1) (c + 1)) (g .columns)) (g .rows)
 
--- a grid copied into a lent output, in either order: then 10 where the output is too short
+-- what copying a grid by columns into a lent output answers and leaves: after 9 and 7 for the kind, 10 where the output is too short
 abbrev pub copyByColumns : List ℕ → Layout → List ℤ → Answer ℕ × List ℤ
 copyByColumns f l out = copied (mapped (byColumns f) (gridOf f l)) out
 
+-- what copying a grid by rows into a lent output answers and leaves: after 9 and 7 for the kind, 10 where the output is too short
 abbrev pub copyByRows : List ℕ → Layout → List ℤ → Answer ℕ × List ℤ
 copyByRows f l out = copied (mapped (byRows f) (gridOf f l)) out

@@ -7,11 +7,11 @@ use lib.Dec.{leb}
 use Rattle.lists.specs.Choices.{both}
 use Rattle.grid_rules.specs.declared.GridLayout.{GridLayout}
 
--- rows, columns
+-- whether rows and columns of a layout are at most what opening accepts
 unfoldable pub gridBounded : GridLayout → Bool
 gridBounded l = both (leb (l .rows) 65535) (leb (l .columns) 65535)
 
--- that they are
+-- rows and columns of a layout are at most what opening accepts
 pub record GridBounds (l : GridLayout) : Type 0 where
   pub rows : l .rows ≤ 65535
   pub columns : l .columns ≤ 65535

@@ -14,7 +14,7 @@ use Rattle.grid_rules.specs.declared.GridLayout.{GridLayout}
 use Rattle.grid_rules.specs.declared.GridOpening.{GridOpening}
 use Rattle.grid_rules.specs.declared.GridOpening.the-variants.{Opened, Refused}
 
--- what each case of an opening's answer says
+-- what each case of the answer of opening a GRID file says
 abbrev pub gridSays : GridOpening → Answer GridLayout
 gridSays (Opened l) = gives l
 gridSays (Refused r) = refuses (r .number) (r .place)
@@ -35,7 +35,7 @@ gridLayoutOf o len w number =
 unfoldable pub openWanted : Order → ℕ → (ℕ → ℕ) → ℕ → Answer GridLayout
 openWanted o len w number = answered (firstFault (wantedRules w number)) (gridLayoutOf o len w number)
 
--- opening, of a length and the words
+-- opening a grid of a file of `len` bytes, by the file's raw words
 unfoldable pub openGridWords : Order → ℕ → (ℕ → ℕ) → ℕ → Answer GridLayout
 openGridWords o len w number = answered (firstFault (gridFileRules len w ++ wantedRules w number)) (gridLayoutOf o len w number)
 
@@ -43,7 +43,7 @@ openGridWords o len w number = answered (firstFault (gridFileRules len w ++ want
 unfoldable pub openGrid : Order → List ℕ → ℕ → Answer GridLayout
 openGrid o f number = openGridWords o (length f) (wordAt o f) number
 
--- a layout's fields as numbers
+-- the fields of a GRID layout as numbers
 abbrev pub gridNumbers : GridLayout → List ℕ
 gridNumbers l =
     orderNumber (l .order)
@@ -54,6 +54,6 @@ gridNumbers l =
     ∷ l .columns
     ∷ []
 
--- whether two layouts are the same
+-- whether two GRID layouts are the same in every field
 unfoldable pub sameGrid : GridLayout → GridLayout → Bool
 sameGrid a b = sameNumbers (gridNumbers a) (gridNumbers b)

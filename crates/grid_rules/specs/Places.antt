@@ -11,7 +11,7 @@ use Rattle.grid_rules.specs.Points.{pointWord}
 use Rattle.grid_rules.specs.declared.GridLayout.{GridLayout}
 use Rattle.grid_rules.specs.Bounds.{gridBounded}
 
--- there is such a row and column
+-- the rules of the point of row r and column c: 7 where there is no such row or column
 unfoldable pub pointRules : GridLayout → ℕ → ℕ → List Rule
 pointRules l r c =
     rule (gridBounded l) 7 0
@@ -19,6 +19,6 @@ pointRules l r c =
     ∷ rule (within 1 (l .columns) c) 7 0
     ∷ []
 
--- the point of row r and column c
+-- the place of the point of row r and column c, or the refusal
 unfoldable pub pointPlace : GridLayout → ℕ → ℕ → Answer Place
 pointPlace l r c = answered (firstFault (pointRules l r c)) (wordPlace (pointWord l r c))

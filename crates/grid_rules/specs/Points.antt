@@ -8,15 +8,15 @@ use lib.ListN.{length}
 use Rattle.endian_rules.specs.declared.Order.{Order}
 use Rattle.grid_rules.specs.declared.GridLayout.{GridLayout}
 
--- header word k: 1 size, 2 rows, 3 columns, 4 date, 5 time
+-- the address of header word k: "Header word k (from 1) is at offset + k - 1: 1 size, 2 rows, 3 columns, 4 date, 5 time."
 abbrev pub headerWord : GridLayout → ℕ → ℕ
 headerWord l k = l .offset + k - 1
 
--- the point of row r and column c
+-- the address of the point of row r and column c: "offset + 64 + (c-1)·rows + (r-1)"
 abbrev pub pointWord : GridLayout → ℕ → ℕ → ℕ
 pointWord l r c = l .offset + 64 + (c - 1) * l .rows + (r - 1)
 
--- there is such a point
+-- a grid of the layout has a point of row r and column c
 pub record IsPoint (l : GridLayout) (r c : ℕ) : Type 0 where
   pub row-from : 1 ≤ r
   pub row-to : r ≤ l .rows
@@ -37,7 +37,7 @@ pub record GridFits (l : GridLayout) : Type 0 where
   pub room : 4 * (l .offset + 64 + l .rows * l .columns) ≤ l .length
   pub small : l .offset + 64 + l .rows * l .columns < 2147483648
 
--- the layout of a grid of a file: its order, length and number, and what is known of it
+-- the layout l is one of grid `number` of the file f in the byte order o, and what is known of the layout of an accepted file's grid holds of it
 pub record GridOf (o : Order) (f : List ℕ) (number : ℕ) (l : GridLayout) : Type 0 where
   pub order : l .order ≡ o
   pub size : l .length ≡ length f

@@ -14,7 +14,7 @@ use Rattle.lists.specs.Choices.{pick, both, either}
 use Rattle.refusal_rules.specs.Rules.{Rule, rule}
 use Rattle.refusal_rules.specs.Tests.{within}
 
--- the next free word
+-- the next free word of a file: "word 11+n is the next free word"
 abbrev pub nextFree : (ℕ → ℕ) → ℕ
 nextFree w = w (11 + w 10)
 
@@ -22,7 +22,7 @@ nextFree w = w (11 + w 10)
 abbrev pub emptySlot : ℕ
 emptySlot = 4294967295
 
--- whether slot k is empty
+-- whether slot k is empty: only -1 is
 abbrev pub isEmptySlot : (ℕ → ℕ) → ℕ → Bool
 isEmptySlot w k = eqb (w (11 + k)) emptySlot
 
@@ -30,8 +30,8 @@ isEmptySlot w k = eqb (w (11 + k)) emptySlot
 abbrev pub gridEnd : (ℕ → ℕ) → ℕ → ℕ
 gridEnd w offset = offset + 64 + w offset
 
--- the checks before the slots, of a file of `len` bytes: its length; n; room for 12 + n words; the next free word from 12 + n up to the file's whole
--- words
+-- the checks before the slots, of a file of `len` bytes: "length; n; room for 12+n words (place 10); next free word from 12+n up to the file's whole words (place
+-- 11+n)"
 unfoldable pub gridHeadRules : ℕ → (ℕ → ℕ) → List Rule
 gridHeadRules len w =
     rule (leb 44 len) 1 0
@@ -45,21 +45,20 @@ gridHeadRules len w =
 unfoldable pub meets : (ℕ → ℕ) → ℕ → ℕ → ℕ → Bool
 meets w low high j = both (not (isEmptySlot w j)) (both (ltb low (gridEnd w (w (11 + j)))) (ltb (w (11 + j)) high))
 
--- whether one of the first k slots has
+-- whether the grid of one of the first k slots has a word from `low` up to, but not with, `high`
 unfoldable pub shares : (ℕ → ℕ) → ℕ → ℕ → ℕ → Bool
 shares w low high zero = false
 shares w low high (suc k) = either (shares w low high k) (meets w low high k)
 
--- Where the header of slot k's grid is: its offset at least 12 + n, and offset + 64 at most the next free word. n and `next` are the words 10 and
--- 11 + n.
+-- the checks of where the header of slot k's grid is: "offset at least 12+n and offset + 64 at most the next free word"; n and `next` are words 10 and 11 + n
 unfoldable pub headerRules : (ℕ → ℕ) → ℕ → ℕ → ℕ → List Rule
 headerRules w n next k =
     rule (atLeast (12 + n) (w (11 + k))) 5 (11 + k)
     ∷ rule (leb (w (11 + k) + 64) next) 5 (11 + k)
     ∷ []
 
--- what the header at an offset says: rows; columns; size = rows·columns, a signed word; data end at most the next free word. Rows and columns
--- are 3 and size is 4, each at that word's own address
+-- the checks of the header at an offset: "rows; columns; size = rows·columns; data end at most the next free word", size a signed word. "Rows and columns are 3
+-- and size is 4, each at that word's own address; the other slot faults are 5 at 10 + slot", with slots counted from 1.
 unfoldable pub sizeRules : (ℕ → ℕ) → ℕ → ℕ → ℕ → List Rule
 sizeRules w next k offset =
     rule (within 1 65535 (w (offset + 1))) 3 (offset + 1)
@@ -69,15 +68,15 @@ sizeRules w next k offset =
     ∷ rule (leb (gridEnd w offset) next) 5 (11 + k)
     ∷ []
 
--- the checks of slot k's grid that look at no other slot
+-- the checks of the grid of slot k that look at no other slot
 unfoldable pub ownRules : (ℕ → ℕ) → ℕ → ℕ → ℕ → List Rule
 ownRules w n next k = headerRules w n next k ++ sizeRules w next k (w (11 + k))
 
--- no word shared with an earlier grid
+-- the check that the grid of slot k has "no word shared with an earlier grid"
 unfoldable pub overlapRule : (ℕ → ℕ) → ℕ → Rule
 overlapRule w k = rule (not (shares w (w (11 + k)) (gridEnd w (w (11 + k))) k)) 5 (11 + k)
 
--- the checks of slot k, "for each slot that isn't empty"
+-- the checks of slot k: they are made "for each slot that isn't empty"
 unfoldable pub slotRules : (ℕ → ℕ) → ℕ → ℕ → ℕ → List Rule
 slotRules w n next k = pick (isEmptySlot w k) [] (ownRules w n next k ++ overlapRule w k ∷ [])
 
@@ -86,11 +85,11 @@ unfoldable pub slotsRules : (ℕ → ℕ) → ℕ → ℕ → ℕ → List Rule
 slotsRules w n next zero = []
 slotsRules w n next (suc k) = slotsRules w n next k ++ slotRules w n next k
 
--- the checks of a whole file of `len` bytes
+-- the checks of a whole GRID file of `len` bytes, before a grid of it is asked for
 unfoldable pub gridFileRules : ℕ → (ℕ → ℕ) → List Rule
 gridFileRules len w = gridHeadRules len w ++ slotsRules w (w 10) (nextFree w) (w 10)
 
--- "Last, the wanted grid number, then whether its slot is empty"
+-- the checks of the grid that is asked for: "Last, the wanted grid number, then whether its slot is empty."
 unfoldable pub wantedRules : (ℕ → ℕ) → ℕ → List Rule
 wantedRules w number =
     rule (within 1 (w 10) number) 7 0

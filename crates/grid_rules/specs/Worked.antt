@@ -25,15 +25,15 @@ fileG offset2 =
     ∷ (16, 3)
     ∷ []))
 
--- G
+-- the worked file G
 unfoldable pub G : List ℕ
 G = fileG 4294967295
 
--- the layout of grid 1
+-- the layout of grid 1 of G
 unfoldable pub layoutG : GridLayout
 layoutG = record { order = Big; length = 336; number = 1; offset = 14; rows = 2; columns = 3 }
 
--- it has the size that document 01 gives, and this layout
+-- G has the size that document 01 gives, and opening grid 1 gives its layout
 pub record WorkedGrid : Type 0 where
   pub size : length G ≡ 336
   pub G-opens : openGrid Big G 1 ≡ gives layoutG

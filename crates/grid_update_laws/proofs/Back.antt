@@ -33,7 +33,7 @@ use Rattle.copy_rules.specs.Runs.{copied}
 use Rattle.span_rules.specs.Spans.{span, handed}
 use Rattle.grid_part_rules.specs.Grids.{pointAt, byColumns, byRows}
 use Rattle.grid_part_rules.proofs.Grids.{columns-point}
-use Rattle.grid_update_rules.specs.Changes.{gridWords, addRules, gridBytes, gridPut, withGrid}
+use Rattle.grid_update_rules.specs.Updates.{gridWords, addRules, gridBytes, gridPut, withGrid}
 use Rattle.grid_update_rules.proofs.Words.{set-byte}
 use Rattle.grid_update_rules.proofs.Highest.{next-byte, next-count}
 use Rattle.grid_update_rules.proofs.GridBytes.{length-bytesOf, grid-length}

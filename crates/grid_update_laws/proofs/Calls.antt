@@ -13,7 +13,7 @@ use Rattle.refusal_rules.specs.declared.Verdict.the-variants.{Pass, Fault}
 use Rattle.refusal_rules.proofs.Answers.{gives-refuses, gives-same}
 use Rattle.grid_rules.specs.declared.GridLayout.{GridLayout}
 use Rattle.extent_rules.specs.declared.Extent.{Extent}
-use Rattle.grid_update_rules.specs.Changes.{stretchesOf, changed, deleteRules, withoutGrid, deleteGrid, addRules, withGrid, added, addGrid}
+use Rattle.grid_update_rules.specs.Updates.{stretchesOf, changed, deleteRules, withoutGrid, deleteGrid, addRules, withGrid, added, addGrid}
 use Rattle.grid_update_rules.specs.declared.Added.{Added}
 use Rattle.grid_update_laws.specs.Kept.{AsBefore, IsRefused, ReadsBack, AfterDeleting, newLayout, AfterAdding, GridsKept}
 use Rattle.grid_update_laws.proofs.Kept.{kept}

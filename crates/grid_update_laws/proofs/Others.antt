@@ -30,7 +30,7 @@ use Rattle.copy_rules.specs.Runs.{copied}
 use Rattle.span_rules.specs.Spans.{handed}
 use Rattle.grid_part_rules.specs.Grids.{byColumns, byRows}
 use Rattle.grid_part_rules.proofs.Grids.{header-stale}
-use Rattle.grid_update_rules.specs.Changes.{deleteRules, withoutGrid, lowestEmpty, addRules, withGrid}
+use Rattle.grid_update_rules.specs.Updates.{deleteRules, withoutGrid, lowestEmpty, addRules, withGrid}
 use Rattle.grid_update_rules.proofs.Deleted.{delete-passes, deleted-length, deleted-accepted, deleted-bytes, deleted-others, deleted-gone}
 use Rattle.grid_update_rules.proofs.Addition.{add-passes, add-place, add-slot, added-length, added-accepted, added-bytes, added-others}
 use Rattle.grid_update_laws.specs.Kept.{IsOf, IsRefused}

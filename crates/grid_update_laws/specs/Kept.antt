@@ -1,4 +1,4 @@
--- ValueName the calls on grids answer after a grid is deleted or added: document 02, request 5. "No other byte changes; other grids read as before", and "after one, a
+-- What the calls on grids answer after a grid is deleted or added: document 02, request 5. "No other byte changes; other grids read as before", and "after one, a
 -- layout is judged as ever". A grid that is added opens, and reads back as it was lent.
 -- Assumes nothing.
 use mathlib.Core.Path.{_≡_}
@@ -23,7 +23,7 @@ use Rattle.copy_rules.specs.Runs.{copied}
 use Rattle.span_rules.specs.Spans.{handed}
 use Rattle.grid_part_rules.specs.Grids.{headerSpan, copyByColumns, copyByRows}
 use Rattle.extent_rules.specs.declared.Extent.{Extent}
-use Rattle.grid_update_rules.specs.Changes.{deleteGrid, addGrid}
+use Rattle.grid_update_rules.specs.Updates.{deleteGrid, addGrid}
 use Rattle.grid_update_rules.specs.declared.Added.{Added}
 
 -- the layout is one of the grid of a number, in a byte order

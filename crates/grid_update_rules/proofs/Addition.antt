@@ -40,7 +40,7 @@ use Rattle.extent_rules.specs.Stretches.{firstWord, highestEnd, isFree, stretch
 use Rattle.extent_rules.specs.Steps.{GridAccepted, SlotsInside}
 use Rattle.extent_rules.proofs.Free.{fails, own-exactly, none-has-exactly, free-word, starts-exactly}
 use Rattle.extent_rules.proofs.Fit.{Fits, lowest-address}
-use Rattle.grid_update_rules.specs.Changes.{setWord, gridWords, lowestEmpty, addressFor, addOwn, addRules, gridBytes, gridPut, withGrid}
+use Rattle.grid_update_rules.specs.Updates.{setWord, gridWords, lowestEmpty, addressFor, addOwn, addRules, gridBytes, gridPut, withGrid}
 use Rattle.grid_update_rules.proofs.Words.{set-length, set-here, set-other, set-byte, put-here, put-other, put-byte}
 use Rattle.grid_update_rules.proofs.Highest.{Laid, HighestIs, grid-same, end-same, laid-slots, laid-highest, next-length, next-other, next-byte, laid-accepted, next-word, next-highest, accepted-laid, open-alike}
 use Rattle.grid_update_rules.proofs.GridBytes.{grid-length, size-word, rows-word, columns-word, header-byte, value-word}

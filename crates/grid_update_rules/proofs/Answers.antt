@@ -3,7 +3,7 @@
 use mathlib.Core.Path.{_≡_, refl}
 use Rattle.refusal_rules.specs.Answers.{Answer, gives, refuses}
 use Rattle.refusal_rules.proofs.Answers.{settled}
-use Rattle.grid_update_rules.specs.Changes.{addSays}
+use Rattle.grid_update_rules.specs.Updates.{addSays}
 use Rattle.grid_update_rules.specs.declared.Added.{Added}
 use Rattle.grid_update_rules.specs.declared.AddAnswer.{AddAnswer}
 use Rattle.grid_update_rules.specs.declared.AddAnswer.the-variants.{Done, Refused}

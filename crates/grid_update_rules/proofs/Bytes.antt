@@ -15,7 +15,7 @@ use Rattle.endian_rules.specs.Numbers.{encode}
 use Rattle.endian_rules.specs.Words.{encodeSigned}
 use Rattle.endian_rules.specs.Files.{bytesOf}
 use Rattle.endian_rules.specs.declared.Order.{Order}
-use Rattle.grid_update_rules.specs.Changes.{gridBytes}
+use Rattle.grid_update_rules.specs.Updates.{gridBytes}
 use Rattle.grid_update_rules.proofs.GridBytes.{length-bytesOf}
 
 -- ---- a list l that became g by a run of stores, and h by another behind it

@@ -25,10 +25,10 @@ use Rattle.extent_rules.specs.Steps.{GridAccepted, nthRun, runsOver}
 use Rattle.extent_rules.specs.declared.Extent.{Extent}
 use Rattle.extent_rules.proofs.Runs.{stretches-listed, stretches-few, stretches-more}
 use Rattle.extent_rules.proofs.Fit.{searched-room}
-use Rattle.grid_update_rules.specs.Changes.{addSays, stretchesOf, changed, deleteRules, withoutGrid, deleteGrid, gridWords, addressFor, addRules, withGrid, added, addGrid}
+use Rattle.grid_update_rules.specs.Updates.{addSays, stretchesOf, changed, deleteRules, withoutGrid, deleteGrid, gridWords, addressFor, addRules, withGrid, added, addGrid}
 use Rattle.grid_update_rules.proofs.Deleted.{delete-passes, deleted-accepted, deleted-count}
 use Rattle.grid_update_rules.proofs.Addition.{AddAsked, AddPasses, add-passes, added-length, added-accepted, added-count, added-starts}
-use Rattle.grid_update_rules.specs.Writes.{deletionSays, additionSays, stepped, deleteStep, planned, addPlan, addStep, Ready}
+use Rattle.grid_update_rules.specs.Steps.{deletionSays, additionSays, stepped, deleteStep, planned, addPlan, addStep, Ready}
 use Rattle.grid_update_rules.specs.declared.DeletionStep.{DeletionStep}
 use Rattle.grid_update_rules.specs.declared.AddPlan.{AddPlan}
 use Rattle.grid_update_rules.specs.declared.AdditionStep.{AdditionStep}

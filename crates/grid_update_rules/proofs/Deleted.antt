@@ -24,7 +24,7 @@ use Rattle.grid_rules.specs.Opening.{openWanted, openGrid}
 use Rattle.grid_rules.proofs.Acceptance.{GridAt, number-grid, file-passes, open-split, wanted-exactly}
 use Rattle.extent_rules.specs.Stretches.{highestEnd, firstWord}
 use Rattle.extent_rules.specs.Steps.{GridAccepted, SlotsInside}
-use Rattle.grid_update_rules.specs.Changes.{setWord, nextFreeSet, deleteOwn, deleteRules, withoutGrid}
+use Rattle.grid_update_rules.specs.Updates.{setWord, nextFreeSet, deleteOwn, deleteRules, withoutGrid}
 use Rattle.grid_update_rules.proofs.Words.{set-length, set-here, set-other, set-byte}
 use Rattle.grid_update_rules.proofs.Highest.{HighestIs, Laid, Fewer, laid-slots, laid-highest, laid-fewer, next-length, next-other, next-byte, next-word, next-highest, laid-accepted, accepted-laid, open-alike}
 

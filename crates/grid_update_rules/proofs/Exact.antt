@@ -32,7 +32,7 @@ use Rattle.extent_rules.specs.declared.Extent.{Extent}
 use Rattle.extent_rules.specs.Steps.{GridAccepted}
 use Rattle.extent_rules.proofs.Free.{accepted-file, fails, own-exactly}
 use Rattle.extent_rules.proofs.Fit.{Fits, lowest-address, room-exactly}
-use Rattle.grid_update_rules.specs.Changes.{stretchesOf, tableRule, changed, deleteRules, withoutGrid, deleteGrid, gridWords, lowestEmpty, addressFor, addOwn, addRules, withGrid, added, addGrid}
+use Rattle.grid_update_rules.specs.Updates.{stretchesOf, tableRule, changed, deleteRules, withoutGrid, deleteGrid, gridWords, lowestEmpty, addressFor, addOwn, addRules, withGrid, added, addGrid}
 use Rattle.grid_update_rules.specs.declared.Added.{Added}
 use Rattle.grid_update_rules.proofs.Deleted.{Deletes, delete-passes, deleted-length, deleted-accepted, deleted-words, deleted-count, deleted-slot, deleted-behind}
 use Rattle.grid_update_rules.proofs.Addition.{AddAsked, AddPasses, add-passes, slot-empty}

@@ -16,7 +16,7 @@ use Rattle.endian_rules.specs.Files.{bytesOf}
 use Rattle.endian_rules.specs.declared.Order.{Order}
 use Rattle.endian_rules.proofs.Numbers.{length-encode}
 use Rattle.endian_rules.proofs.Places.{number-drop, number-left, number-right, number-held, word-number}
-use Rattle.grid_update_rules.specs.Changes.{gridWords, gridBytes}
+use Rattle.grid_update_rules.specs.Updates.{gridWords, gridBytes}
 
 -- ---- the bytes of raw words
 

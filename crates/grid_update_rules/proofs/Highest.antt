@@ -24,7 +24,7 @@ use Rattle.grid_rules.proofs.Acceptance.{GridAt, slot-grid, file-passes, open-s
 use Rattle.grid_rules.proofs.Footprint.{SameAt, SameSlot, wanted-same}
 use Rattle.extent_rules.specs.Stretches.{extentEnd, slotExtent, highestEnd, firstWord}
 use Rattle.extent_rules.specs.Steps.{GridAccepted, SlotsInside}
-use Rattle.grid_update_rules.specs.Changes.{nextFreeSet}
+use Rattle.grid_update_rules.specs.Updates.{nextFreeSet}
 use Rattle.grid_update_rules.proofs.Words.{set-length, set-here, set-other, set-byte}
 
 -- ---- the end of the highest grid

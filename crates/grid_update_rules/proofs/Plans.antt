@@ -17,9 +17,9 @@ use Rattle.refusal_rules.specs.declared.Verdict.the-variants.{Pass, Fault}
 use Rattle.extent_rules.specs.Steps.{survey}
 use Rattle.extent_rules.specs.declared.Survey.{Survey}
 use Rattle.extent_rules.proofs.Fit.{room-some}
-use Rattle.grid_update_rules.specs.Changes.{setWord, stretchesOf, gridWords, lowestEmpty, addressFor, addRules, added}
+use Rattle.grid_update_rules.specs.Updates.{setWord, stretchesOf, gridWords, lowestEmpty, addressFor, addRules, added}
 use Rattle.grid_update_rules.proofs.Addition.{AddPasses, add-passes}
-use Rattle.grid_update_rules.specs.Writes.{refusedPlan, planned, addPlan}
+use Rattle.grid_update_rules.specs.Steps.{refusedPlan, planned, addPlan}
 
 module _ (o : Order) (f : List ℕ) (headers rows columns values size : ℕ) where
   -- where the rules refuse

@@ -18,8 +18,8 @@ use Rattle.refusal_rules.proofs.Tables.{fault-joined, pass-joined, by-table}
 use Rattle.grid_rules.specs.Rules.{emptySlot, gridFileRules, wantedRules}
 use Rattle.extent_rules.specs.Steps.{GridAccepted, survey}
 use Rattle.extent_rules.specs.declared.Survey.{Survey}
-use Rattle.grid_update_rules.specs.Changes.{tableRule, deleteOwn, deleteRules, addOwn, addRules}
-use Rattle.grid_update_rules.specs.Writes.{stepped}
+use Rattle.grid_update_rules.specs.Updates.{tableRule, deleteOwn, deleteRules, addOwn, addRules}
+use Rattle.grid_update_rules.specs.Steps.{stepped}
 
 -- ---- deleting
 

@@ -13,7 +13,7 @@ use Rattle.endian_rules.specs.Numbers.{decode, numberAt}
 use Rattle.endian_rules.specs.Words.{wordAt}
 use Rattle.endian_rules.specs.declared.Order.{Order}
 use Rattle.endian_rules.proofs.Places.{number-part, words-apart, read-back, byte-frame, number-frame, write-length}
-use Rattle.grid_update_rules.specs.Changes.{setWord}
+use Rattle.grid_update_rules.specs.Updates.{setWord}
 
 module _ (o : Order) (f : List ℕ) (k n : ℕ) where
   -- the file is as long as it was

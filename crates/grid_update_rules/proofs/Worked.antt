@@ -19,7 +19,7 @@ use Rattle.grid_rules.specs.Worked.{fileG, G}
 use Rattle.extent_rules.specs.Stretches.{extent, slotExtent, highestEnd, noGridHas, stretchStarts, runFrom, stretchAt, freeStretches}
 use Rattle.extent_rules.specs.Rooms.{fitsAt, lowestAddress}
 use Rattle.extent_rules.specs.declared.Extent.{Extent}
-use Rattle.grid_update_rules.specs.Changes.{setWord, stretchesOf, nextFreeSet, deleteRules, withoutGrid, deleteGrid, lowestEmpty, addRules, gridBytes, gridPut, withGrid, addGrid}
+use Rattle.grid_update_rules.specs.Updates.{setWord, stretchesOf, nextFreeSet, deleteRules, withoutGrid, deleteGrid, lowestEmpty, addRules, gridBytes, gridPut, withGrid, addGrid}
 
 -- a table of three pairs, which is n + 1
 unfoldable pub table : List Extent

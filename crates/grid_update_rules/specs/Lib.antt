@@ -1,2 +1,2 @@
-pub mod Changes
-pub mod Writes
+pub mod Updates
+pub mod Steps

@@ -39,8 +39,8 @@ ghost use Rattle.endian_rules.specs.Files.{bytesOf};
 ghost use Rattle.refusal_rules.specs.Rules.{firstFault};
 ghost use Rattle.extent_rules.specs.Stretches.{firstWord, highestEnd};
 ghost use Rattle.extent_rules.specs.Steps.{SlotsInside, GridAccepted};
-ghost use Rattle.grid_update_rules.specs.Changes.{nextFreeSet, deleteRules, lowestEmpty, addRules, gridBytes};
-ghost use Rattle.grid_update_rules.specs.Writes.{deletionSays, deleteStep, refusedPlan, addPlan, additionSays, addStep, Ready};
+ghost use Rattle.grid_update_rules.specs.Updates.{nextFreeSet, deleteRules, lowestEmpty, addRules, gridBytes};
+ghost use Rattle.grid_update_rules.specs.Steps.{deletionSays, deleteStep, refusedPlan, addPlan, additionSays, addStep, Ready};
 
 // Sets the next free word to the end of the highest grid, or to 12 + n where there is none. The directory must be inside the file, and each grid, and the end must
 // be a signed word.

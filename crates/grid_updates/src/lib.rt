@@ -11,7 +11,7 @@ use grid_update_steps::plan_add;
 use refusal_rules::SizeAnswer;
 ghost use mathlib.Core.Path.{_≡_};
 ghost use Rattle.refusal_rules.specs.Answers.{sizeSays};
-ghost use Rattle.grid_update_rules.specs.Changes.{deleteGrid, addSays, addGrid};
+ghost use Rattle.grid_update_rules.specs.Updates.{deleteGrid, addSays, addGrid};
 
 // Deletes the grid of a number, counted from 1: its slot becomes empty, and the next free word the end of the highest grid that is left. No other byte changes.
 // Answers how many free stretches the file has now, which stand in the first places of the table; places past them stay.

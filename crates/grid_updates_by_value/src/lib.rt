@@ -8,7 +8,7 @@ ghost use mathlib.Core.Path.{_≡_};
 ghost use lib.ListN.{replicate};
 ghost use Rattle.refusal_rules.specs.Answers.{sizeSays};
 ghost use Rattle.extent_rules.specs.Stretches.{noWords};
-ghost use Rattle.grid_update_rules.specs.Changes.{deleteGrid, addSays, addGrid};
+ghost use Rattle.grid_update_rules.specs.Updates.{deleteGrid, addSays, addGrid};
 
 // How many places a table has: one more than the most grids that a file may have, so that it is long enough for every file.
 pub const PLACES: usize = 1025;

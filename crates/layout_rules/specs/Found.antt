@@ -18,30 +18,30 @@ asArea (Area l) = gives l
 asArea (Grid l) = refuses 7 0
 asArea (Md l) = refuses 7 0
 
--- as a GRID layout
+-- the layout as a GRID layout, or refusal 7
 abbrev pub asGrid : Layout → Answer GridLayout
 asGrid (Area l) = refuses 7 0
 asGrid (Grid l) = gives l
 asGrid (Md l) = refuses 7 0
 
--- as an MD layout
+-- the layout as an MD layout, or refusal 7
 abbrev pub asMd : Layout → Answer MdLayout
 asMd (Area l) = refuses 7 0
 asMd (Grid l) = refuses 7 0
 asMd (Md l) = gives l
 
--- 9, then what a kind says of the layout
+-- what a call says of a file and a layout: 9 where the layout is stale, else what `own` says of the layout
 unfoldable pub found : {Value : Type 0} → (Layout → Answer Value) → List ℕ → Layout → Answer Value
 found own f l = pick (isFresh f l) (own l) (refuses 9 0)
 
--- the AREA layout that a file and a layout give
+-- what a call of AREA files begins with: the layout as an AREA layout, or 9 where it is stale, then 7 where it is of another kind
 abbrev pub areaOf : List ℕ → Layout → Answer AreaLayout
 areaOf f l = found asArea f l
 
--- the GRID layout
+-- what a call of GRID files begins with: the layout as a GRID layout, or 9 where it is stale, then 7 where it is of another kind
 abbrev pub gridOf : List ℕ → Layout → Answer GridLayout
 gridOf f l = found asGrid f l
 
--- the MD layout
+-- what a call of MD files begins with: the layout as an MD layout, or 9 where it is stale, then 7 where it is of another kind
 abbrev pub mdOf : List ℕ → Layout → Answer MdLayout
 mdOf f l = found asMd f l

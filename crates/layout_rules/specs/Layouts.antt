@@ -14,7 +14,7 @@ use Rattle.layout_rules.specs.declared.Layout.the-variants.{Area, Grid, 
 use Rattle.layout_rules.specs.declared.Opening.{Opening}
 use Rattle.layout_rules.specs.declared.Opening.the-variants.{Opened, Refused}
 
--- what each case of an opening's answer says
+-- what each case of the answer of opening a file of any kind says
 abbrev pub openingSays : Opening → Answer Layout
 openingSays (Opened l) = gives l
 openingSays (Refused r) = refuses (r .number) (r .place)
@@ -37,13 +37,13 @@ kindOf (Area l) = area
 kindOf (Grid l) = grid
 kindOf (Md l) = md
 
--- its byte order
+-- the byte order of a layout
 abbrev pub layoutOrder : Layout → Order
 layoutOrder (Area l) = l .order
 layoutOrder (Grid l) = l .order
 layoutOrder (Md l) = l .order
 
--- its grid number, 0 where its kind has none
+-- the grid number of a layout, 0 where its kind has none
 abbrev pub gridNumberOf : Layout → ℕ
 gridNumberOf (Area l) = 0
 gridNumberOf (Grid l) = l .number
@@ -53,11 +53,12 @@ gridNumberOf (Md l) = 0
 abbrev pub reopened : List ℕ → Layout → Answer Layout
 reopened f l = openAs (kindOf l) (layoutOrder l) (gridNumberOf l) f
 
--- A layout is fresh where that gives that very layout. "Stale" is document 01's term for one that is not.
+-- A layout is fresh where opening these bytes with the layout's kind, order and grid number gives that very layout. "Stale" is document 01's term for one that
+-- is not.
 abbrev pub Fresh : List ℕ → Layout → Type 0
 Fresh f l = reopened f l ≡ gives l
 
--- whether two layouts are the same
+-- whether two layouts of any kind are the same: of one kind, and in every field
 abbrev pub sameLayout : Layout → Layout → Bool
 sameLayout (Area a) (Area b) = sameArea a b
 sameLayout (Area a) (Grid b) = false
@@ -69,7 +70,7 @@ sameLayout (Md a) (Area b) = false
 sameLayout (Md a) (Grid b) = false
 sameLayout (Md a) (Md b) = sameMd a b
 
--- whether an answer is a layout
+-- whether an answer of opening is the layout l
 abbrev pub givesThat : Layout → Answer Layout → Bool
 givesThat l (gives m) = sameLayout m l
 givesThat l (refuses n p) = false

@@ -26,7 +26,7 @@ module _ {A : Type 0} where
   listOf f zero = []
   listOf f (suc n) = listOf f n ++ f n ∷ []
 
-  -- the lists g 0, g 1 and so on, n of them, joined
+  -- the lists g 0, g 1 and so on, n of them, joined: the lines of a table one after another
   unfoldable pub linesOf : (ℕ → List A) → ℕ → List A
   linesOf g zero = []
   linesOf g (suc n) = linesOf g n ++ g n

@@ -10,7 +10,7 @@ unfoldable pub lowest : (ℕ → Bool) → ℕ → ℕ → ℕ
 lowest t p zero = p
 lowest t p (suc c) = pick (t p) p (lowest t (p + 1) c)
 
--- that r is
+-- r is the lowest of the c numbers from p on that the test holds of, or p + c where it holds of none
 pub record IsLowest (t : ℕ → Bool) (p c r : ℕ) : Type 0 where
   pub from : p ≤ r
   pub to : r ≤ p + c

@@ -18,7 +18,7 @@ use Rattle.layout_rules.specs.declared.Layout.{Layout}
 abbrev pub keyName : List ℕ → ℕ → List ℕ
 keyName f k = part (4 * (464 + (k - 1))) 4 f
 
--- whether the key at a position has a name
+-- whether the key at a position has the name `name`
 abbrev pub isNamed : List ℕ → List ℕ → ℕ → Bool
 isNamed f name k = sameNumbers (keyName f k) name
 
@@ -26,15 +26,15 @@ isNamed f name k = sameNumbers (keyName f k) name
 abbrev pub positions : ℕ → List ℕ
 positions n = listOf suc n
 
--- the first of a list, or refusal 7
+-- the first of a list of positions, or refusal 7 where there is none
 abbrev pub firstPosition : List ℕ → Answer ℕ
 firstPosition [] = refuses 7 0
 firstPosition (k ∷ ks) = gives k
 
--- the first of the K positions whose key has a name; a name of any other length than four is refused with 7
+-- the first of the K positions of an accepted file whose key has a name, or refusal 7: no key has it, or it has another length than four
 unfoldable pub keyIn : List ℕ → MdLayout → List ℕ → Answer ℕ
 keyIn f m name = pick (eqb (length name) 4) (firstPosition (keep (isNamed f name) (positions (m .keys)))) (refuses 7 0)
 
--- of any file
+-- the first position of the key of any file with a layout that has a name, or the refusal
 abbrev pub keyOf : List ℕ → Layout → List ℕ → Answer ℕ
 keyOf f l name = andThen (mdOf f l) (λ m. keyIn f m name)

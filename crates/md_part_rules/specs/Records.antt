@@ -18,18 +18,18 @@ use Rattle.copy_rules.specs.Runs.{copied}
 unfoldable pub partFields : List ℕ → MdLayout → ℕ → ℕ → List ℤ
 partFields f m r c = listOf (λ k. signedAt (m .order) f (4 * fieldWord m r c (k + 1))) (fieldsOf m r c)
 
--- "A complete record of (r,c), r and c at least 1, is its row header, column header and data, K words"
+-- the fields of a record: "A complete record of (r,c), r and c at least 1, is its row header, column header and data, K words."
 unfoldable pub recordFields : List ℕ → MdLayout → ℕ → ℕ → List ℤ
 recordFields f m r c = partFields f m r 0 ++ (partFields f m 0 c ++ partFields f m r c)
 
--- there is such a record
+-- a file of the layout has a record of (r, c)
 pub record IsRecord (m : MdLayout) (r c : ℕ) : Type 0 where
   pub row-from : 1 ≤ r
   pub row-to : r ≤ m .rows
   pub column-from : 1 ≤ c
   pub column-to : c ≤ m .columns
 
--- the rules that say so
+-- the rules of a record of (r, c): 7 where there is no such record
 unfoldable pub recordRules : MdLayout → ℕ → ℕ → List Rule
 recordRules m r c = rule (within 1 (m .rows) r) 7 0 ∷ rule (within 1 (m .columns) c) 7 0 ∷ []
 
@@ -37,10 +37,10 @@ recordRules m r c = rule (within 1 (m .rows) r) 7 0 ∷ rule (within 1 (m .colum
 unfoldable pub recordIn : List ℕ → MdLayout → ℕ → ℕ → Answer (List ℤ)
 recordIn f m r c = answered (firstFault (recordRules m r c)) (recordFields f m r c)
 
--- of any file
+-- the record of any file with a layout, or the refusal
 abbrev pub recordOf : List ℕ → Layout → ℕ → ℕ → Answer (List ℤ)
 recordOf f l r c = andThen (mdOf f l) (λ m. recordIn f m r c)
 
--- a record copied into a lent output: then 10 where the output is too short
+-- what copying a record into a lent output answers and leaves: after the refusals of the record, 10 where the output is too short
 abbrev pub copyRecord : List ℕ → Layout → ℕ → ℕ → List ℤ → Answer ℕ × List ℤ
 copyRecord f l r c out = copied (recordOf f l r c) out

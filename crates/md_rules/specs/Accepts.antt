@@ -9,7 +9,7 @@ use Rattle.endian_rules.specs.declared.Order.{Order}
 use Rattle.md_rules.specs.Rules.{mdDataEnd}
 use Rattle.md_rules.specs.declared.MdLayout.{MdLayout}
 
--- The rules, one field a rule, of a file of `len` bytes whose raw words are w. A count, or a word with a rule, is below 2 ^ 31, and so it is
+-- An MD file of `len` bytes whose raw words are w is accepted, one field a rule. A count, or a word with a rule, is below 2 ^ 31, and so it is
 -- the signed word; word 30 has no upper limit of its own, and is compared as a signed word.
 pub record AcceptsMd (len : ℕ) (w : ℕ → ℕ) : Type 0 where
   pub long : 16384 ≤ len
@@ -32,7 +32,7 @@ pub record AcceptsMd (len : ℕ) (w : ℕ → ℕ) : Type 0 where
   pub word-30 : AtLeast (mdDataEnd w) (w 30)
   pub inside : w 30 ≤ len / 4
 
--- What is known of the layout of an accepted file: both bounds of every field, where the parts begin, and that they are inside the file. Every
+-- What is known of the layout of an accepted MD file: both bounds of every field, where the parts begin, and that they are inside the file. Every
 -- later address rests on this, and not on the rules.
 pub record MdFits (l : MdLayout) : Type 0 where
   pub rows-from : 1 ≤ l .rows
@@ -52,7 +52,7 @@ pub record MdFits (l : MdLayout) : Type 0 where
   pub room : 4 * (l .«data_start» + l .rows * l .columns * l .«data_keys») ≤ l .length
   pub small : l .«data_start» + l .rows * l .columns * l .«data_keys» < 2147483648
 
--- the layout of a file: what its length and order are, and what is known of it
+-- the layout l is one of the file f in the byte order o, and what is known of an accepted file's layout holds of it
 pub record MdOf (o : Order) (f : List ℕ) (l : MdLayout) : Type 0 where
   pub order : l .order ≡ o
   pub size : l .length ≡ length f

@@ -7,14 +7,14 @@ use lib.Dec.{leb}
 use Rattle.lists.specs.Choices.{both}
 use Rattle.md_rules.specs.declared.MdLayout.{MdLayout}
 
--- rows, columns, and the keys of row headers, column headers and data
+-- whether rows, columns, and the keys of row headers, column headers and data of a layout are at most what opening accepts
 unfoldable pub mdBounded : MdLayout → Bool
 mdBounded l =
     both (leb (l .rows) 65535)
     (both (leb (l .columns) 1600000)
     (both (leb (l .«row_keys») 400) (both (leb (l .«column_keys») 400) (leb (l .«data_keys») 400))))
 
--- that they are
+-- rows, columns, and the keys of row headers, column headers and data of a layout are at most what opening accepts
 pub record MdBounds (l : MdLayout) : Type 0 where
   pub rows : l .rows ≤ 65535
   pub columns : l .columns ≤ 1600000

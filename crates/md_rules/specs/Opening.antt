@@ -14,7 +14,7 @@ use Rattle.md_rules.specs.declared.MdLayout.{MdLayout}
 use Rattle.md_rules.specs.declared.MdOpening.{MdOpening}
 use Rattle.md_rules.specs.declared.MdOpening.the-variants.{Opened, Refused}
 
--- what each case of an opening's answer says
+-- what each case of the answer of opening an MD file says
 abbrev pub mdSays : MdOpening → Answer MdLayout
 mdSays (Opened l) = gives l
 mdSays (Refused r) = refuses (r .number) (r .place)
@@ -35,15 +35,15 @@ mdLayoutOf o len w =
       «data_start» = w 29;
     }
 
--- opening, of a length and the words
+-- opening a file of `len` bytes, by its raw words
 unfoldable pub openMdWords : Order → ℕ → (ℕ → ℕ) → Answer MdLayout
 openMdWords o len w = answered (firstFault (mdRules len w)) (mdLayoutOf o len w)
 
--- opening a file in a byte order
+-- opening an MD file in a byte order
 unfoldable pub openMd : Order → List ℕ → Answer MdLayout
 openMd o f = openMdWords o (length f) (wordAt o f)
 
--- a layout's fields as numbers
+-- the fields of an MD layout as numbers
 abbrev pub mdNumbers : MdLayout → List ℕ
 mdNumbers l =
     orderNumber (l .order)
@@ -58,6 +58,6 @@ mdNumbers l =
     ∷ l .«data_start»
     ∷ []
 
--- whether two layouts are the same
+-- whether two MD layouts are the same in every field
 unfoldable pub sameMd : MdLayout → MdLayout → Bool
 sameMd a b = sameNumbers (mdNumbers a) (mdNumbers b)

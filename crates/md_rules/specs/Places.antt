@@ -12,7 +12,7 @@ use Rattle.md_rules.specs.Fields.{fieldsOf, fieldWord}
 use Rattle.md_rules.specs.declared.MdLayout.{MdLayout}
 use Rattle.md_rules.specs.Bounds.{mdBounded}
 
--- there is such a row and column, of which 0 names the headers and the user record
+-- the rules of the part that coordinates name, of which 0 names the headers and the user record: 7 where there is no such row or column
 unfoldable pub partRules : MdLayout → ℕ → ℕ → List Rule
 partRules l r c =
     rule (mdBounded l) 7 0
@@ -24,14 +24,14 @@ partRules l r c =
 abbrev pub partWord : MdLayout → ℕ → ℕ → ℕ
 partWord l r c = fieldWord l r c 1
 
--- that word, or the refusal
+-- the word at which the part that coordinates name begins, or the refusal
 unfoldable pub partStartOf : MdLayout → ℕ → ℕ → Answer ℕ
 partStartOf l r c = answered (firstFault (partRules l r c)) (partWord l r c)
 
--- there is such a field
+-- the rules of field f of the part that coordinates name: 7 where there is no such row, column or field
 unfoldable pub fieldRules : MdLayout → ℕ → ℕ → ℕ → List Rule
 fieldRules l r c f = partRules l r c ++ rule (within 1 (fieldsOf l r c) f) 7 0 ∷ []
 
--- field f of the part that coordinates name
+-- the place of field f of the part that coordinates name, or the refusal
 unfoldable pub fieldPlace : MdLayout → ℕ → ℕ → ℕ → Answer Place
 fieldPlace l r c f = answered (firstFault (fieldRules l r c f)) (wordPlace (fieldWord l r c f))

@@ -36,11 +36,11 @@ fileM word28 =
     ∷ []))
     ++ replicate 16228 0
 
--- M
+-- the worked file M
 unfoldable pub M : List ℕ
 M = fileM 4100
 
--- its layout
+-- the layout of M
 unfoldable pub layoutM : MdLayout
 layoutM =
     record {
@@ -56,7 +56,7 @@ layoutM =
       «data_start» = 4103;
     }
 
--- it has the size that document 01 gives, and this layout
+-- M has the size that document 01 gives, and opening it gives its layout
 pub record WorkedMd : Type 0 where
   pub size : length M ≡ 16484
   pub M-opens : openMd Big M ≡ gives layoutM

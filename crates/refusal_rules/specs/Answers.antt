@@ -27,32 +27,32 @@ abbrev pub answered : {Value : Type 0} → Verdict → Value → Answer Value
 answered Pass v = gives v
 answered (Fault r) v = refuses (r .number) (r .place)
 
--- the answer with another value made of its value
+-- an answer with another value made of its value; a refusal stays
 abbrev pub mapped : {Value Other : Type 0} → (Value → Other) → Answer Value → Answer Other
 mapped h (gives v) = gives (h v)
 mapped h (refuses n p) = refuses n p
 
--- the answer of a call that goes on with the value of another: a refusal of the first stays
+-- the answer of a call that goes on with the value of another call's answer; a refusal of that answer stays
 abbrev pub andThen : {Value Other : Type 0} → Answer Value → (Value → Answer Other) → Answer Other
 andThen (gives v) h = h v
 andThen (refuses n p) h = refuses n p
 
--- what each case of an answer says whose value is an unsigned number
+-- what each case of a `NumberAnswer` says: an unsigned number, or the refusal
 abbrev pub numberSays : NumberAnswer → Answer ℕ
 numberSays (NumberAnswer.Value n) = gives n
 numberSays (NumberAnswer.Refused r) = refuses (r .number) (r .place)
 
--- whose value is a signed word
+-- what each case of a `WordAnswer` says: a signed word, or the refusal
 abbrev pub wordSays : WordAnswer → Answer ℤ
 wordSays (WordAnswer.Value v) = gives v
 wordSays (WordAnswer.Refused r) = refuses (r .number) (r .place)
 
--- whose value is an address, a length or a count
+-- what each case of a `SizeAnswer` says: an address, a length or a count, or the refusal
 abbrev pub sizeSays : SizeAnswer → Answer ℕ
 sizeSays (SizeAnswer.Value n) = gives n
 sizeSays (SizeAnswer.Refused r) = refuses (r .number) (r .place)
 
--- whose value is a place
+-- what each case of a `PlaceAnswer` says: a place, or the refusal
 abbrev pub placeSays : PlaceAnswer → Answer Place
 placeSays (PlaceAnswer.At p) = gives p
 placeSays (PlaceAnswer.Refused r) = refuses (r .number) (r .place)
@@ -61,6 +61,6 @@ placeSays (PlaceAnswer.Refused r) = refuses (r .number) (r .place)
 abbrev pub place : ℕ → ℕ → Place
 place address width = record { address = address; width = width }
 
--- the place of a word
+-- the place of word k, counted from 0: its four bytes
 abbrev pub wordPlace : ℕ → Place
 wordPlace k = place (4 * k) 4

@@ -16,7 +16,7 @@ pub record Rule : Type 0 where
   pub number : ℕ
   pub place : ℕ
 
--- a row, in the order in which tables write it
+-- a row of a table, with test, number and place in the order in which tables write them
 abbrev pub rule : Bool → ℕ → ℕ → Rule
 rule holds number place = record { holds = holds; number = number; place = place }
 
@@ -24,7 +24,7 @@ rule holds number place = record { holds = holds; number = number; place = place
 abbrev pub refusalOf : Rule → Refusal
 refusalOf r = record { number = r .number; place = r .place }
 
--- what one rule says
+-- what one rule says: a pass where its test holds, else its refusal
 unfoldable pub judge : Rule → Verdict
 judge r = pick (r .holds) Pass (Fault (refusalOf r))
 

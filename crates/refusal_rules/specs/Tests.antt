@@ -12,11 +12,11 @@ pub record Exactly (test : Bool) (P : Type 0) : Type 0 where
   pub sound : test ≡ true → P
   pub complete : P → test ≡ true
 
--- n is at least low and at most high
+-- whether n is at least low and at most high
 unfoldable pub within : ℕ → ℕ → ℕ → Bool
 within low high n = both (leb low n) (leb n high)
 
--- two lists of numbers are the same
+-- whether two lists of numbers are the same
 unfoldable pub sameNumbers : List ℕ → List ℕ → Bool
 sameNumbers [] [] = true
 sameNumbers [] (y ∷ ys) = false

@@ -10,12 +10,12 @@ use Rattle.span_rules.specs.declared.Span.{Span}
 use Rattle.span_rules.specs.declared.SpanAnswer.{SpanAnswer}
 use Rattle.span_rules.specs.declared.SpanAnswer.the-variants.{At, Refused}
 
--- what each case of a companion call's answer says
+-- what each case of the answer of a call says that gives start and length of a part
 abbrev pub spanSays : SpanAnswer → Answer Span
 spanSays (At s) = gives s
 spanSays (Refused r) = refuses (r .number) (r .place)
 
--- so many bytes from a start on
+-- the span of so many bytes from a start on
 abbrev pub span : ℕ → ℕ → Span
 span start size = record { start = start; length = size }
 
@@ -24,7 +24,7 @@ abbrev pub handed : List ℕ → Answer Span → List ℕ
 handed f (gives s) = part (s .start) (s .length) f
 handed f (refuses n p) = []
 
--- a span that is given is inside the file
+-- the span that an answer gives is inside the file; nothing is said of a refusal
 abbrev pub Inside : List ℕ → Answer Span → Type 0
 Inside f (gives s) = s .start + s .length ≤ length f
 Inside f (refuses n p) = Unit {0}

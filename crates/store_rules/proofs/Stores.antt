@@ -152,7 +152,7 @@ frame {f} {s} {a} {b} w g =
 
 -- the byte from which the places of a file and a kind are counted, and how wide each is: those of the layout that opening gives
 baseOf : Answer AreaLayout → ℕ
-baseOf (gives l) = l .start
+baseOf (gives l) = l .«data_start»
 baseOf (refuses n p) = 0
 
 wideOf : Answer AreaLayout → ℕ

@@ -1,4 +1,4 @@
--- ValueName a store's answer says, and a store by the name of its value.
+-- What a store's answer says, and a store by the name of its value.
 -- Assumes nothing.
 use mathlib.Core.List.{List}
 use Prim.Native.Nat.{ℕ}

@@ -1,4 +1,4 @@
--- ValueName a store of a single value does: document 01, "ValueName comes back". It refuses 9, then 7 for its kind, then 4 at 19 where a band is named, then the other
+-- What a store of a single value does: document 01, "What comes back". It refuses 9, then 7 for its kind, then 4 at 19 where a band is named, then the other
 -- 7s, as the single read does, and then 8 for a sample above W11 bytes. Otherwise the number's bytes stand at its place, in the file's order.
 --
 -- Demand 3 is stated of these stores.
@@ -32,35 +32,35 @@ pub data Number : Type 0 where
   unsigned : ℕ → Number
   signed : ℤ → Number
 
--- the three calls that store one value, with what each is asked: line, element, channel and number; row, column and value; row, column, position and value
+-- what each of the three calls that store one value is asked: line, element, slot or band, and number; row, column and value; row, column, position and value
 pub data Request : Type 0 where
   sample : ℕ → ℕ → SlotOrBand → ℕ → Request
   point : ℕ → ℕ → ℤ → Request
   field : ℕ → ℕ → ℕ → ℤ → Request
 
--- a store: a layout, and what is asked
+-- a store of a single value: a layout, and what is asked
 pub record Store : Type 0 where
   pub layout : Layout
   pub request : Request
 
--- the name of the value
+-- the name of the value that a store is asked to set
 abbrev pub valueNameOf : Request → ValueName
 valueNameOf (sample i e c n) = Sample i e c
 valueNameOf (point r c v) = Point r c
 valueNameOf (field r c k v) = Field r c k
 
--- its number
+-- the number that a store is asked to put there
 abbrev pub requestNumber : Request → Number
 requestNumber (sample i e c n) = unsigned n
 requestNumber (point r c v) = signed v
 requestNumber (field r c k v) = signed v
 
--- the unsigned number that its bits are
+-- the unsigned number that the bits of a number to store are
 abbrev pub bitsOf : Number → ℕ
 bitsOf (unsigned n) = n
 bitsOf (signed v) = ofZ w32 v
 
--- the number is one that the type of the argument has
+-- the number is one that the type of a number to store has
 abbrev pub InType : Number → Type 0
 InType (unsigned n) = n < 2 ^ 32
 InType (signed v) = SFits w32 v
@@ -69,31 +69,31 @@ InType (signed v) = SFits w32 v
 abbrev pub Done : Type 0
 Done = Answer (Unit {0})
 
--- a number that is put at a place: 8 where it does not fit the place's bytes
+-- what a store does that puts a number at a place: 8 where the number does not fit the place's bytes, else its bytes are written
 unfoldable pub putAt : Order → ℕ → Place → Plan Done
 putAt o n p = pick (ltb n (256 ^ p .width)) (write (gives tt) (p .address) (encode o (p .width) n)) (refuse (refuses 8 0))
 
--- at the place that an answer gives, or refused as the answer is
+-- what a store does that puts a number at the place that an answer gives; it is refused as the answer is
 abbrev pub putIn : Order → ℕ → Answer Place → Plan Done
 putIn o n (gives p) = putAt o n p
 putIn o n (refuses k q) = refuse (refuses k q)
 
--- what a store with a fresh layout does
+-- what a store does whose layout is fresh
 unfoldable pub whenFresh : Store → Plan Done
 whenFresh s = putIn (layoutOrder (s .layout)) (bitsOf (requestNumber (s .request))) (placeOf (s .layout) (valueNameOf (s .request)))
 
--- the single read of a store's place with its layout
+-- what the single read of a store's place with its layout answers
 abbrev pub readBack : List ℕ → Layout → Request → Answer Number
 readBack f l (sample i e c n) = mapped unsigned (readSample f l i e c)
 readBack f l (point r c v) = mapped signed (readWord f l (Point r c))
 readBack f l (field r c k v) = mapped signed (readWord f l (Field r c k))
 
--- a key is one kind and one byte order
+-- one kind and one byte order, as demand 3 has them
 pub record Key : Type 0 where
   pub kind : Kind
   pub order : Order
 
--- the stores of single values, of all three kinds
+-- the stores of single values, of all three kinds, in the terms of the theory of stores
 abbrev pub storeFormat : Format Store Key (Answer Layout) Done (Answer Number)
 storeFormat =
     record {
@@ -113,25 +113,25 @@ storeFormat =
 abbrev pub planOf : List ℕ → Store → Plan Done
 planOf = plan storeFormat
 
--- what it is answered, and the file that it leaves
+-- what a store is answered, and the file that it leaves
 abbrev pub storesIn : List ℕ → Store → Done × List ℕ
 storesIn f s = outcome f (planOf f s)
 
--- that of a number into a sample
+-- what a store of a number into a sample is answered, and the file that it leaves
 abbrev pub storeSample : List ℕ → Layout → ℕ → ℕ → SlotOrBand → ℕ → Done × List ℕ
 storeSample f l i e c n = storesIn f (record { layout = l; request = sample i e c n })
 
--- of a signed word into a point of a grid
+-- what a store of a signed word into a point of a grid is answered, and the file that it leaves
 abbrev pub storePoint : List ℕ → Layout → ℕ → ℕ → ℤ → Done × List ℕ
 storePoint f l r c v = storesIn f (record { layout = l; request = point r c v })
 
--- of a signed word into a field of an MD file
+-- what a store of a signed word into a field of an MD file is answered, and the file that it leaves
 abbrev pub storeField : List ℕ → Layout → ℕ → ℕ → ℕ → ℤ → Done × List ℕ
 storeField f l r c k v = storesIn f (record { layout = l; request = field r c k v })
 
 -- Demand 3 of the stores of single values: see `Demand3`, `OrderFree` and `OrderFreeRuns`. A run is one of functions whose contracts say `storesIn`.
 pub record OrderDoesNotMatter : Type 0 where
-  -- the claim, for "one kind, one byte order"
+  -- the claim, for "one kind and one byte order"
   pub claim : (kind : Kind) (order : Order) → Demand3Runs (system storeFormat (record { kind = kind; order = order }))
   -- the stores that succeed, as the claim has it, are those that are answered that they are done: "succeeds, that is, isn't refused"
   pub succeeds : (f : List ℕ) (s : Store) → ((a : ℕ) × SucceedsAt a (planOf f s)) ↔ (storesIn f s .0 ≡ gives tt)

@@ -22,7 +22,7 @@ module _ {Store Answer Opened Value : Type 0} (S : System Store Answer Opened Va
     pub Fit : Call → Type 0
     -- the stores that a call makes of a file, in their order; none where it is refused as a whole
     pub makes : List ℕ → Call → List Store
-    -- what it is told as a whole
+    -- what a call is told on a file as a whole
     pub whole : List ℕ → Call → Whole
 
   module _ {Call Whole : Type 0} (C : CallSystem Call Whole) where
@@ -39,11 +39,11 @@ module _ {Store Answer Opened Value : Type 0} (S : System Store Answer Opened Va
     unfoldable pub callOutcome : List ℕ → Call → Told Whole Answer × List ℕ
     callOutcome f c = (record { whole = C .whole f c; slots = answers S f (C .makes f c) }, fileAfter S f (C .makes f c))
 
-    -- the file after calls made one after another
+    -- the file after a list of calls made one after another
     abbrev pub fileAfterCalls : List ℕ → List Call → List ℕ
     fileAfterCalls f l = leaves callOutcome f l
 
-    -- what each of them is told
+    -- what each of a list of calls made one after another is told
     abbrev pub told : List ℕ → List Call → List (Told Whole Answer)
     told f l = replies callOutcome f l
 
@@ -63,7 +63,7 @@ module _ {Store Answer Opened Value : Type 0} (S : System Store Answer Opened Va
       pub same : (m : List Call) → All (C .Fit) m → OrderOf (items f l) (items f m) → fileAfterCalls f m ≡ stores .bytes
       pub answered : (m : List Call) → All (C .Fit) m → told f m ≡ map (toldAlone f) m
 
-    -- demand 3 over calls: of any file, and any list of calls no two of whose items succeed at the same place
+    -- demand 3 over calls, of every file and every list of calls no two of whose items succeed at the same place
     abbrev pub Demand3Calls : Type 0
     Demand3Calls = (f : List ℕ) (l : List Call) → All (C .Fit) l → Distinct S f (items f l) → CallsFree f l
 
@@ -76,7 +76,7 @@ module _ {Store Answer Opened Value : Type 0} (S : System Store Answer Opened Va
       pub answered : told f l ≡ map (toldAlone f) l
       pub answered′ : told f m ≡ map (toldAlone f) m
 
-    -- request 13 over calls: the items of the two lists are the same, each as often, and those at the same place stand in the same order
+    -- request 13 over calls, of every file and every two lists of calls whose items are the same, each as often, with those at the same place in the same order
     abbrev pub Request13Calls : Type 0
     Request13Calls = (f : List ℕ) (l m : List Call) → All (C .Fit) l → All (C .Fit) m → OrderOf (items f l) (items f m)
         → ((a : ℕ) → storesAt S f a (items f l) ≡ storesAt S f a (items f m)) → CallsLast f l m

@@ -1,5 +1,5 @@
 -- Demand 3, that the order of stores does not matter, and request 13 of document 02, the rule for stores at the same place. Each is one
--- claim about whole lists of stores. Words in quotation marks are those of the demand and of the request.
+-- claim about whole lists of stores. Words in quotation marks are the customer's, those of the demand and of the request.
 -- Assumes nothing.
 use mathlib.Core.Path.{_≡_}
 use mathlib.Core.List.{List, [], _∷_, _++_, map, List·Memᴰ}
@@ -12,32 +12,33 @@ use Rattle.store_theory.specs.Stores.{System, OrderOf, All, alone, store
 module _ {Store Answer Opened Value : Type 0} (S : System Store Answer Opened Value) where
   -- Demand 3 of one file f and one list l of stores. Each field is a sentence of the demand.
   pub record OrderFree (f : List ℕ) (l : List Store) : Type 0 where
-    -- "all orders leave the same bytes": these
+    -- "All orders leave the same bytes": these
     pub bytes : List ℕ
     pub same : (o : List Store) → OrderOf l o → fileAfter S f o ≡ bytes
-    -- "in every order each store gets the answer it would get alone on the file as it came"
+    -- "in every order, each store gets the answer it would get alone on the file as it came"
     pub answered : (o : List Store) → OrderOf l o → answers S f o ≡ map (alone S f) o
     -- "each stored place reads back its number"
     pub stored : (s : Store) → List·Memᴰ s l → (a : ℕ) → SucceedsAt a (S .plan f s) → S .read bytes s ≡ S .number s
-    -- "every other byte is the old one", and there are as many
+    -- "every other byte is the old one", and the file has as many
     pub others : (i : ℕ) → All (λ s. ¬ Covers i (S .plan f s)) l → getD bytes i 0 ≡ getD f i 0
     pub size : length bytes ≡ length f
-    -- "opening answers as before": opening by the one kind and byte order, for every grid number
+    -- "Opening the file as that kind (GRID and MD in that order) answers as before, whatever grid is asked for."
     pub opening : S .opening bytes ≡ S .opening f
 
-  -- Demand 3: "any file, accepted or not, one kind, one byte order, any list of stores (refused ones too, layouts stale or not), no two
-  -- that succeed at the same place".
+  -- Demand 3: "Take any file, accepted or not, one kind and one byte order, and any list of stores .., refused ones included. Each store has a layout of that
+  -- kind and order, stale or not, and no two that succeed name the same place."
   abbrev pub Demand3 : Type 0
   Demand3 = (f : List ℕ) (l : List Store) → All (S .Fit) l → Distinct S f l → OrderFree f l
 
   -- Demand 3 of functions that store, by what their contracts say: called one after another in any order of the list, each with the file
-  -- as the one before left it, they give these answers and leave these bytes.
+  -- as the one before left it, they give the answers and leave the bytes that `OrderFree` says. "The first gets the file as it came, each later one as the store
+  -- before left it, and nobody else writes it meanwhile."
   pub record OrderFreeRuns (f : List ℕ) (l : List Store) : Type 0 where
     pub free : OrderFree f l
     pub answered : (o : List Store) (rs : List Answer) (h : List ℕ) → OrderOf l o → Run (stores S) f o rs h → rs ≡ map (alone S f) o
     pub left : (o : List Store) (rs : List Answer) (h : List ℕ) → OrderOf l o → Run (stores S) f o rs h → h ≡ free .bytes
 
-  -- demand 3 of functions: of any file and list as above
+  -- demand 3 of functions that store, of every file and every list of stores as `Demand3` has them
   abbrev pub Demand3Runs : Type 0
   Demand3Runs = (f : List ℕ) (l : List Store) → All (S .Fit) l → Distinct S f l → OrderFreeRuns f l
 

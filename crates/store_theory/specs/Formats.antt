@@ -38,7 +38,7 @@ module _ {Store Key Opened Answer Value : Type 0} (F : Format Store Key Opened A
   abbrev pub FreshStore : List ℕ → Store → Type 0
   FreshStore f s = F .open-as f (F .key s) (F .grid s) ≡ F .layout s
 
-  -- a store with a stale layout is refused, and any other does what it does
+  -- what a store does to a file: it is refused where its layout is stale, and else does what a store with a fresh layout does
   unfoldable pub plan : List ℕ → Store → Plan Answer
   plan f s = pick (F .same s (F .open-as f (F .key s) (F .grid s))) (F .when-fresh s) (refuse (F .stale))
 

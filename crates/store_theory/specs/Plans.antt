@@ -10,23 +10,23 @@ use lib.ListN.{length}
 use lib.Seq.{sets}
 use Rattle.lists.specs.Lists.{part}
 
--- write: the answer, the address and the bytes; refuse: the answer
+-- what a store does: it writes bytes at an address, or it refuses; each with the answer that the caller is told
 pub data Plan (Answer : Type 0) : Type 0 where
   write : Answer → ℕ → List ℕ → Plan Answer
   refuse : Answer → Plan Answer
 
 module _ {Answer : Type 0} where
-  -- what the caller is told
+  -- the answer that the caller of a store is told
   abbrev pub answer : Plan Answer → Answer
   answer (write r a b) = r
   answer (refuse r) = r
 
-  -- the file afterwards
+  -- the file after a store
   abbrev pub after : List ℕ → Plan Answer → List ℕ
   after f (write r a b) = sets f a b
   after f (refuse r) = f
 
-  -- both at once: what the contract of a function that stores says of its result and the lent file
+  -- the answer and the file after a store: what the contract of a function that stores says of its result and the lent file
   unfoldable pub outcome : List ℕ → Plan Answer → Answer × List ℕ
   outcome f p = (answer p, after f p)
 
@@ -36,7 +36,7 @@ module _ {Answer : Type 0} where
   SucceedsAt c (write r a b) = a ≡ c
   SucceedsAt c (refuse r) = ⊥
 
-  -- whether it does
+  -- whether the store succeeds, and its place is at address c
   abbrev pub succeedsAt : ℕ → Plan Answer → Bool
   succeedsAt c (write r a b) = eqb a c
   succeedsAt c (refuse r) = false

@@ -4,7 +4,7 @@ use mathlib.Core.Path.{_≡_}
 use mathlib.Core.List.{List, [], _∷_}
 use Prim.Native.Nat.{ℕ}
 
--- what a call answers on a file, and the file that it leaves
+-- calls of one kind, of which `does` says what a call answers on a file, and the file that it leaves
 module _ {Call Answer : Type 0} (does : List ℕ → Call → Answer × List ℕ) where
   -- the file after calls made one after another, from left to right: the first gets the file as it came, each later one the file as
   -- the call before it left it
@@ -12,7 +12,7 @@ module _ {Call Answer : Type 0} (does : List ℕ → Call → Answer × List ℕ
   leaves f [] = f
   leaves f (c ∷ l) = leaves (does f c .1) l
 
-  -- what each of them is answered
+  -- what each of a list of calls made one after another is answered
   unfoldable pub replies : List ℕ → List Call → List Answer
   replies f [] = []
   replies f (c ∷ l) = does f c .0 ∷ replies (does f c .1) l

@@ -13,11 +13,11 @@ use Rattle.store_theory.specs.Series.{leaves, replies}
 abbrev pub OrderOf : {X : Type 0} → List X → List X → Type 0
 OrderOf l o = List·Permᴰ l o
 
--- every member of a list
+-- every member of a list has a property
 abbrev pub All : {X : Type 0} → (X → Type 0) → List X → Type 0
 All {X} P l = (x : X) → List·Memᴰ x l → P x
 
--- the stores of a file format
+-- The stores of a file format: which there are, what each does, what opening answers, and what reading back answers.
 pub record System (Store Answer Opened Value : Type 0) : Type 1 where
   -- which stores are meant: those whose layout is of the one kind and byte order, and whose numbers are such as can be stored
   pub Fit : Store → Type 0
@@ -38,11 +38,11 @@ module _ {Store Answer Opened Value : Type 0} (S : System Store Answer Opened Va
   abbrev pub stores : List ℕ → Store → Answer × List ℕ
   stores f s = outcome f (S .plan f s)
 
-  -- the file after stores made one after another
+  -- the file after a list of stores made one after another
   abbrev pub fileAfter : List ℕ → List Store → List ℕ
   fileAfter f l = leaves stores f l
 
-  -- what each of them is answered
+  -- what each of a list of stores made one after another is answered
   abbrev pub answers : List ℕ → List Store → List Answer
   answers f l = replies stores f l
 

@@ -1,5 +1,5 @@
 // The stores of single values, into a file that is lent: a sample of an AREA file, a point of a grid, a field of an MD file. Each changes the bytes of its place only,
-// and a refusal changes nothing. ValueName each does is its plan, of which `store_plans` shows that the order of stores does not matter.
+// and a refusal changes nothing. What each does is its plan, of which `store_plans` shows that the order of stores does not matter.
 use area_rules::SlotOrBand;
 use endian::unsigned;
 use endian_rules::Order;

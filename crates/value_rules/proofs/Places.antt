@@ -43,7 +43,7 @@ use Rattle.value_rules.specs.declared.ValueName.the-variants.{Sample, Po
 
 -- ---- a value that has a place by a fresh layout
 
--- ValueName is known of it: the layout is the one that opening the file gives, there is such a value, and its place is at the paper's address.
+-- What is known of it: the layout is the one that opening the file gives, there is such a value, and its place is at the paper's address.
 pub data Located (f : List ℕ) : Layout → ValueName → Place → Type 0 where
   sample-at : {l : AreaLayout} {i e s : ℕ} {c : SlotOrBand} {p : Place} → openArea f ≡ gives l → slotOf l c ≡ gives s → IsSample l i e s
       → p ≡ place (sampleAddress l i e s) (l .width) → Located f (Area l) (Sample i e c) p
@@ -111,7 +111,7 @@ place-width (field-at opens is same) = along (λ a w. (1 ≤ w) × (w ≤ 4)) sa
 
 -- the byte from which the places of a layout are counted, and how wide each is
 abbrev pub base : Layout → ℕ
-base (Area l) = l .start
+base (Area l) = l .«data_start»
 base (Grid l) = 0
 base (Md l) = 0
 

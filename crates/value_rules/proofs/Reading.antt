@@ -1,4 +1,4 @@
--- ValueName the single reads answer. A read gives the number at the paper's address exactly where the layout is fresh and there is such a value.
+-- What the single reads answer. A read gives the number at the paper's address exactly where the layout is fresh and there is such a value.
 -- Assumes nothing.
 use mathlib.Core.Path.{_≡_, refl, sym, ap, ap₂, subst, _∙_}
 use mathlib.Core.Logic.{_↔_}

@@ -1,4 +1,4 @@
--- Where a named value lies, by a layout of any kind. The refusals are in the order of document 01, "ValueName comes back": 7 for the kind, then those of the kind.
+-- Where a named value lies, by a layout of any kind. The refusals are in the order of document 01, "What comes back": 7 for the kind, then those of the kind.
 -- That the layout is the one of the file (9) is judged before.
 -- Assumes nothing.
 use Rattle.refusal_rules.specs.Answers.{Answer, andThen}
@@ -11,7 +11,7 @@ use Rattle.layout_rules.specs.declared.Layout.{Layout}
 use Rattle.value_rules.specs.declared.ValueName.{ValueName}
 use Rattle.value_rules.specs.declared.ValueName.the-variants.{Sample, Point, Field}
 
--- where a named value lies
+-- the place of a named value by a layout, or the refusal
 unfoldable pub placeOf : Layout → ValueName → Answer Place
 placeOf l (Sample i e c) = andThen (asArea l) (λ a. samplePlace a i e c)
 placeOf l (Point r c) = andThen (asGrid l) (λ g. pointPlace g r c)

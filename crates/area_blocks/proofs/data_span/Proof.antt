@@ -43,7 +43,7 @@ returns c =
 returns-2 : tie.Need-returns-2
 unfolding blockOf blockRules firstFault first judge
 returns-2 c =
-    let start = c .before .before .before .before .before .args .l .start in
+    let start = c .before .before .before .before .before .args .l .«data_start» in
     ap (λ (n : ℕ). gives (span start (n - start))) (end c)
 
 pub data-span-spec : {M : Type 1} → statement M

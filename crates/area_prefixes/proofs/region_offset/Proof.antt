@@ -10,7 +10,7 @@ use Rattle.area_prefixes.proofs.region_offset.Statement.{statement}
 use Rattle.area_prefixes.proofs.region_offset.Tie as tie
 
 -- a validity code has at most four bytes
-code-most : (plain : Bool) → validityLength plain ≤ 4
+code-most : (noCode : Bool) → validityLength noCode ≤ 4
 code-most true = omega arith
 code-most false = omega arith
 
@@ -30,7 +30,7 @@ cast-result : tie.Need-cast-result
 cast-result c = search needs
 
 add-result : tie.Need-add-result
-add-result c = omega (arith, c .before .before .before .region-length .ensures, code-most (c .before .before .before .before .args .l .plain))
+add-result c = omega (arith, c .before .before .before .region-length .ensures, code-most (c .before .before .before .before .args .l .«no_validity_code»))
 
 enum-told-4 : tie.Need-enum-told-4
 enum-told-4 c = search needs
@@ -39,14 +39,14 @@ cast-result-2 : tie.Need-cast-result-2
 cast-result-2 c = search needs
 
 add-result-2 : tie.Need-add-result-2
-add-result-2 c = omega (arith, c .before .before .before .region-length .ensures, code-most (c .before .before .before .before .args .l .plain))
+add-result-2 c = omega (arith, c .before .before .before .region-length .ensures, code-most (c .before .before .before .before .args .l .«no_validity_code»))
 
 cast-result-3 : tie.Need-cast-result-3
 cast-result-3 c = search needs
 
 add-result-3 : tie.Need-add-result-3
 add-result-3 c =
-    omega (arith, c .before .before .before .before .region-length .ensures, code-most (c .before .before .before .before .before .args .l .plain))
+    omega (arith, c .before .before .before .before .region-length .ensures, code-most (c .before .before .before .before .before .args .l .«no_validity_code»))
 
 returns : tie.Need-returns
 returns c = rw (c .enum-told .given .1)

@@ -16,10 +16,10 @@ use Rattle.extent_rules.specs.Stretches.{firstWord, highestEnd}
 use Rattle.extent_rules.specs.Steps.{GridAccepted, SlotsInside}
 use Rattle.extent_rules.specs.declared.Extent.{Extent}
 use Rattle.extent_rules.proofs.Slots.{accepted-slots}
-use Rattle.grid_update_rules.specs.Changes.{nextFreeSet, lowestEmpty, gridWords, addressFor, addRules, gridPut, withGrid, added}
+use Rattle.grid_update_rules.specs.Updates.{nextFreeSet, lowestEmpty, gridWords, addressFor, addRules, gridPut, withGrid, added}
 use Rattle.grid_update_rules.specs.declared.Added.{Added}
 use Rattle.grid_update_rules.proofs.Addition.{newAddress, newBytes, gridIn, add-passes, add-place, added-slots, added-small, added-accepted}
-use Rattle.grid_update_rules.specs.Writes.{addStep}
+use Rattle.grid_update_rules.specs.Steps.{addStep}
 use Rattle.grid_update_rules.specs.declared.AddPlan.{AddPlan}
 use Rattle.grid_update_rules.proofs.Plans.{plan-verdict, plan-number, set-as, added-is}
 use Rattle.grid_update_rules.proofs.Verdicts.{step-pass, step-fault}

@@ -9,7 +9,7 @@ use borrow.Author.Needs.{needs}
 use Rattle.refusal_rules.specs.Rules.{chained}
 use Rattle.refusal_rules.proofs.Tables.{by-table}
 use Rattle.extent_rules.proofs.Slots.{accepted-slots}
-use Rattle.grid_update_rules.specs.Changes.{addOwn}
+use Rattle.grid_update_rules.specs.Updates.{addOwn}
 use Rattle.grid_update_rules.proofs.Verdicts.{add-own}
 use Rattle.grid_update_steps.proofs.add_verdict.Statement.{statement}
 use Rattle.grid_update_steps.proofs.add_verdict.Tie as tie

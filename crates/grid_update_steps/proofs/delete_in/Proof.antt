@@ -14,9 +14,9 @@ use Rattle.grid_rules.specs.Rules.{emptySlot}
 use Rattle.extent_rules.specs.Stretches.{firstWord, highestEnd}
 use Rattle.extent_rules.specs.Steps.{GridAccepted, SlotsInside}
 use Rattle.extent_rules.proofs.Slots.{accepted-slots}
-use Rattle.grid_update_rules.specs.Changes.{setWord, nextFreeSet, deleteRules, withoutGrid}
+use Rattle.grid_update_rules.specs.Updates.{setWord, nextFreeSet, deleteRules, withoutGrid}
 use Rattle.grid_update_rules.proofs.Deleted.{delete-passes, deleted-slots, deleted-small, deleted-accepted}
-use Rattle.grid_update_rules.specs.Writes.{deleteStep}
+use Rattle.grid_update_rules.specs.Steps.{deleteStep}
 use Rattle.grid_update_rules.proofs.Verdicts.{step-pass, step-fault}
 use Rattle.grid_update_steps.proofs.delete_in.Statement.{statement}
 use Rattle.grid_update_steps.proofs.delete_in.Tie as tie

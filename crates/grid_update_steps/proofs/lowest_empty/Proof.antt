@@ -13,7 +13,7 @@ use Rattle.grid_rules.specs.Rules.{emptySlot, isEmptySlot}
 use Rattle.grid_rules.proofs.Slots.{below-more}
 use Rattle.extent_rules.specs.Steps.{SlotsInside}
 use Rattle.extent_rules.proofs.Slots.{accepted-slots}
-use Rattle.grid_update_rules.specs.Changes.{lowestEmpty}
+use Rattle.grid_update_rules.specs.Updates.{lowestEmpty}
 use Rattle.grid_update_steps.proofs.lowest_empty.Statement.{statement}
 use Rattle.grid_update_steps.proofs.lowest_empty.Tie as tie
 

@@ -12,7 +12,7 @@ use Rattle.refusal_rules.specs.declared.Verdict.the-variants.{Pass}
 use Rattle.extent_rules.specs.Steps.{GridAccepted, survey}
 use Rattle.extent_rules.specs.declared.Survey.{Survey}
 use Rattle.extent_rules.proofs.Slots.{accepted-slots}
-use Rattle.grid_update_rules.specs.Changes.{lowestEmpty, addRules}
+use Rattle.grid_update_rules.specs.Updates.{lowestEmpty, addRules}
 use Rattle.grid_update_rules.proofs.Addition.{add-passes}
 use Rattle.grid_update_rules.proofs.Verdicts.{add-file}
 use Rattle.grid_update_rules.proofs.Plans.{plan-fault, plan-pass, pass-some}

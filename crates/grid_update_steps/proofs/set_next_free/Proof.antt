@@ -1,7 +1,7 @@
 -- `grid_update_steps::set_next_free` meets its contract.
 -- Assumes nothing.
 use native.Mathlib.Omega.{arith}
-use Rattle.grid_update_rules.specs.Changes.{setWord, nextFreeSet}
+use Rattle.grid_update_rules.specs.Updates.{setWord, nextFreeSet}
 use borrow.Author.Needs.{needs}
 use Rattle.grid_update_steps.proofs.set_next_free.Statement.{statement}
 use Rattle.grid_update_steps.proofs.set_next_free.Tie as tie

@@ -54,7 +54,7 @@ use Rattle.extent_table_steps.proofs.search.Symbol.{name as #search}
 use Rattle.grid_update_rules.specs.declared.AddAnswer.{AddAnswer}
 use Rattle.grid_update_rules.proofs.AddAnswer as S
 use Rattle.grid_update_rules.proofs.AddAnswer.Laws as S′
-use Rattle.grid_update_rules.specs.Writes.{additionSays, addPlan, addStep}
+use Rattle.grid_update_rules.specs.Steps.{additionSays, addPlan, addStep}
 use Rattle.grid_update_rules.specs.declared.AddPlan.{AddPlan}
 use Rattle.grid_update_rules.specs.declared.AdditionStep.{AdditionStep}
 use Rattle.grid_update_rules.proofs.Calls.{plan-may-fill, plan-ready, add-may-fill, add-done}

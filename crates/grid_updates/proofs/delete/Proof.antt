@@ -47,7 +47,7 @@ use Rattle.extent_table_steps.proofs.Extents.{order-value, an-order}
 use Rattle.extent_table_steps.proofs.fill.Met as fill-met
 use Rattle.extent_table_steps.proofs.fill.Symbol as fill-def
 use Rattle.extent_table_steps.proofs.fill.Symbol.{name as #fill}
-use Rattle.grid_update_rules.specs.Writes.{deletionSays, deleteStep}
+use Rattle.grid_update_rules.specs.Steps.{deletionSays, deleteStep}
 use Rattle.grid_update_rules.specs.declared.DeletionStep.{DeletionStep}
 use Rattle.grid_update_rules.proofs.Calls.{delete-may-fill, delete-done}
 use Rattle.grid_update_rules.proofs.DeletionStep as D

@@ -38,7 +38,7 @@ use denote.Triple.Walked.{says}
 use Rattle.extent_rules.specs.Stretches.{noWords}
 use Rattle.extent_rules.specs.declared.Extent.{Extent}
 use Rattle.extent_rules.proofs.Extent as X
-use Rattle.grid_update_rules.specs.Changes.{addSays, addGrid}
+use Rattle.grid_update_rules.specs.Updates.{addSays, addGrid}
 use Rattle.grid_update_rules.specs.declared.AddAnswer.{AddAnswer}
 use Rattle.grid_update_rules.proofs.AddAnswer as S
 use Rattle.grid_update_rules.proofs.AddAnswer.Laws as S′

@@ -38,7 +38,7 @@ use denote.Triple.Walked.{says}
 use Rattle.extent_rules.specs.Stretches.{noWords}
 use Rattle.extent_rules.specs.declared.Extent.{Extent}
 use Rattle.extent_rules.proofs.Extent as X
-use Rattle.grid_update_rules.specs.Changes.{deleteGrid}
+use Rattle.grid_update_rules.specs.Updates.{deleteGrid}
 use Rattle.refusal_rules.specs.Answers.{sizeSays}
 use Rattle.refusal_rules.specs.declared.SizeAnswer.{SizeAnswer}
 use Rattle.refusal_rules.proofs.SizeAnswer as S

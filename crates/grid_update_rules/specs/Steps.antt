@@ -16,26 +16,26 @@ use Rattle.extent_rules.specs.Stretches.{noWords}
 use Rattle.extent_rules.specs.Rooms.{firstFitting}
 use Rattle.extent_rules.specs.Steps.{nthRun}
 use Rattle.extent_rules.specs.declared.Extent.{Extent}
-use Rattle.grid_update_rules.specs.Changes.{addSays, stretchesOf, deleteRules, withoutGrid, gridWords, lowestEmpty, addressFor, addRules, withGrid, added}
+use Rattle.grid_update_rules.specs.Updates.{addSays, stretchesOf, deleteRules, withoutGrid, gridWords, lowestEmpty, addressFor, addRules, withGrid, added}
 use Rattle.grid_update_rules.specs.declared.Added.{Added}
 use Rattle.grid_update_rules.specs.declared.DeletionStep.{DeletionStep}
 use Rattle.grid_update_rules.specs.declared.AddPlan.{AddPlan}
 use Rattle.grid_update_rules.specs.declared.AdditionStep.{AdditionStep}
 
--- what a deletion says: the answer, and the places to fill
+-- what a deletion in the file says: the answer, and how many places of the table are to be filled
 abbrev pub deletionSays : DeletionStep → Answer ℕ × ℕ
 deletionSays d = (sizeSays (d .answer), d .count)
 
--- what an addition says
+-- what an addition in the file says: the answer, and how many places of the table are to be filled
 abbrev pub additionSays : AdditionStep → Answer Added × ℕ
 additionSays a = (addSays (a .answer), a .count)
 
--- by the verdict of a call's rules: the value, as many places as the changed file g has free stretches, and g; or the refusal, no place, and the file f
+-- what a step says and the file that it leaves, by the verdict of its call's rules: the value, as many places as the changed file g has free stretches, and g; or the refusal, no place, and the file f
 abbrev pub stepped : {Value : Type 0} → Verdict → (ℕ → Value) → Order → List ℕ → List ℕ → (Answer Value × ℕ) × List ℕ
 stepped Pass value o f g = ((gives (value (length (stretchesOf o g))), length (stretchesOf o g)), g)
 stepped (Fault r) value o f g = ((refuses (r .number) (r .place), 0), f)
 
--- deleting, with a table of `size` pairs
+-- what deleting in the file says, with a table of `size` pairs, and the file that it leaves
 unfoldable pub deleteStep : Order → List ℕ → ℕ → ℕ → (Answer ℕ × ℕ) × List ℕ
 deleteStep o f number size = stepped (firstFault (deleteRules o f number size)) (λ count. count) o f (withoutGrid o f number)
 
@@ -54,7 +54,7 @@ planned (Fault r) o f rows columns = refusedPlan r
 unfoldable pub addPlan : Order → List ℕ → ℕ → ℕ → ℕ → ℕ → ℕ → AddPlan
 addPlan o f headers rows columns values size = planned (firstFault (addRules o f headers rows columns values size)) o f rows columns
 
--- adding
+-- what adding in the file says, with a table of `size` pairs, and the file that it leaves
 unfoldable pub addStep : Order → List ℕ → List ℕ → ℕ → ℕ → List ℤ → ℕ → (Answer Added × ℕ) × List ℕ
 addStep o f header rows columns values size =
     stepped (firstFault (addRules o f (length header) rows columns (length values) size)) (added o f rows columns) o f (withGrid o f header rows columns values)
