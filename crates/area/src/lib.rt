@@ -43,7 +43,7 @@ fn second_map(bands: u32, map2: u32) -> u32
 }
 
 // The layout that the words of a file of `told` bytes give.
-fn layout(told: usize, order: Order, words: &[u32; 64]) -> AreaLayout
+fn layout_of_words(told: usize, order: Order, words: &[u32; 64]) -> AreaLayout
     ensures { λ r. ⌜ r ≡ areaLayoutOf order told (wordIn (now (words .entry))) ⌝ }
 {
     let map2 = second_map(words[13], words[19]);
@@ -75,7 +75,7 @@ fn open_words(told: usize, order: Order, words: &[u32; 64]) -> AreaOpening
 {
     match word_verdict(told, words) {
         Verdict::Fault(refusal) => AreaOpening::Refused(refusal),
-        Verdict::Pass => AreaOpening::Opened(layout(told, order, words)),
+        Verdict::Pass => AreaOpening::Opened(layout_of_words(told, order, words)),
     }
 }
 

@@ -1,17 +1,16 @@
 -- One channel of one line. Its samples are equally far apart, so they are a run that begins at the place of element 0; the refusals of that place are those of
 -- the line.
 -- Assumes nothing.
-use mathlib.Core.Path.{_≡_, refl, sym, ap, subst, _∙_}
+use mathlib.Core.Path.{_≡_, refl, sym, subst, _∙_}
 use mathlib.Core.Logic.{_↔_}
 use mathlib.Core.List.{List, [], _∷_}
 use Prim.Native.Nat.{ℕ, _+_, _*_, _≤_, _<_}
 use native.Mathlib.Nat.{mul-assoc, add-mul}
 use native.Mathlib.Omega.{arith}
 use lib.Dec.{ltb}
-use lib.ListN.{length, getD}
+use lib.ListN.{length}
 use borrow.Author.Tests.{ltb-true, lt-ltb}
 use Rattle.lists.specs.Lists.{listOf}
-use Rattle.lists.proofs.Built.{length-listOf, getD-listOf}
 use Rattle.endian_rules.specs.Numbers.{numberAt}
 use Rattle.refusal_rules.specs.Answers.{Answer, gives, refuses, answered, mapped, andThen, place}
 use Rattle.refusal_rules.specs.Rules.{rule, judge, first, firstFault}
@@ -29,15 +28,13 @@ use Rattle.area_rules.proofs.Places.{sample-place}
 use Rattle.layout_rules.specs.Found.{areaOf}
 use Rattle.layout_rules.specs.Layouts.{Fresh}
 use Rattle.layout_rules.specs.declared.Layout.{Layout}
-use Rattle.layout_rules.proofs.OneKind.{area-found, area-nine}
+use Rattle.layout_rules.proofs.OneKind.{area-nine}
 use Rattle.area_rules.specs.Bands.{slotOf}
 use Rattle.area_rules.specs.declared.SlotOrBand.{SlotOrBand}
 use Rattle.area_rules.specs.declared.SlotOrBand.the-variants.{Band}
-use Rattle.area_rules.proofs.Bands.{slot-inside, slot-never}
+use Rattle.area_rules.proofs.Bands.{slot-never}
 use Rattle.copy_rules.specs.Runs.{numbersAt}
 use Rattle.copy_rules.proofs.Copies.{copied-nine}
-use Rattle.value_rules.specs.Reading.{readSample}
-use Rattle.value_rules.proofs.Reading.{sample-exactly}
 use Rattle.area_part_rules.specs.Lines.{bandSlotIn, slotLine, lineIn, lineOf, copyLine}
 
 -- the samples of a slot are so many bytes apart
@@ -45,11 +42,11 @@ pub sample-along : (l : AreaLayout) (i e s : ℕ) → sampleAddress l i 0 s + e 
 sample-along l i e s = omega (arith, mul-assoc e (l .bands) (l .width), add-mul (e * l .bands) s (l .width))
 
 -- the run of numbers that a line is, from the place of element 0 on
-abbrev pub runFrom : List ℕ → AreaLayout → Place → List ℕ
-runFrom f l p = numbersAt (l .order) (p .width) f (p .address) (l .bands * l .width) (l .elements)
+abbrev pub lineFrom : List ℕ → AreaLayout → Place → List ℕ
+lineFrom f l p = numbersAt (l .order) (p .width) f (p .address) (l .bands * l .width) (l .elements)
 
 -- it is the line
-line-run : (f : List ℕ) (l : AreaLayout) (i s : ℕ) → runFrom f l (place (sampleAddress l i 0 s) (l .width)) ≡ slotLine f l i s
+line-run : (f : List ℕ) (l : AreaLayout) (i s : ℕ) → lineFrom f l (place (sampleAddress l i 0 s) (l .width)) ≡ slotLine f l i s
 unfolding slotLine
 line-run f l i s = λ t. listOf (λ e. numberAt (l .order) (l .width) f (sample-along l i e s t)) (l .elements)
 
@@ -64,7 +61,7 @@ unfolding sampleRules firstFault first judge
 same-rules l fits i = rw (area-bounded l fits, lt-ltb 0 (l .elements) (fits .elements-from))
 
 -- a line is what is read from the place of its element 0 on, with the refusals of that place
-pub line-from : (f : List ℕ) (l : AreaLayout) → AreaFits l → (i : ℕ) (c : SlotOrBand) → mapped (runFrom f l) (samplePlace l i 0 c) ≡ lineIn f l i c
+pub line-from : (f : List ℕ) (l : AreaLayout) → AreaFits l → (i : ℕ) (c : SlotOrBand) → mapped (lineFrom f l) (samplePlace l i 0 c) ≡ lineIn f l i c
 unfolding samplePlace lineIn
 line-from f l fits i c = step (slotOf l c)
   where
@@ -72,22 +69,22 @@ line-from f l fits i c = step (slotOf l c)
     rules = same-rules l fits i
 
     step : (x : Answer ℕ)
-        → mapped (runFrom f l) (andThen x (λ s. answered (firstFault (sampleRules l i 0)) (place (sampleAddress l i 0 s) (l .width))))
+        → mapped (lineFrom f l) (andThen x (λ s. answered (firstFault (sampleRules l i 0)) (place (sampleAddress l i 0 s) (l .width))))
         ≡ andThen x (λ s. answered (firstFault (rule (ltb i (l .lines)) 7 0 ∷ [])) (slotLine f l i s))
     step (refuses n p) = refl
     step (gives s) =
-        answered-made (runFrom f l) (firstFault (sampleRules l i 0)) (place (sampleAddress l i 0 s) (l .width))
+        answered-made (lineFrom f l) (firstFault (sampleRules l i 0)) (place (sampleAddress l i 0 s) (l .width))
         ∙ (λ t. answered (rules t) (line-run f l i s t))
 
 -- the run is inside the file
-pub run-inside : (f : List ℕ) (l : AreaLayout) → AreaOf f l → (i : ℕ) (c : SlotOrBand) (p : Place) → samplePlace l i 0 c ≡ gives p
+pub line-inside : (f : List ℕ) (l : AreaLayout) → AreaOf f l → (i : ℕ) (c : SlotOrBand) (p : Place) → samplePlace l i 0 c ≡ gives p
     → (p .width ≤ 4) × ((e : ℕ) → e < l .elements → p .address + e * (l .bands * l .width) + p .width ≤ length f)
-run-inside f l of i c p given =
+line-inside f l of i c p given =
     let (s, slot, (is, same)) = sample-place l (of .fits) i 0 c p .0 given in
     subst (λ (q : Place). (q .width ≤ 4) × ((e : ℕ) → e < l .elements → q .address + e * (l .bands * l .width) + q .width ≤ length f)) (sym same)
     (width-to l (of .fits), λ e lt. omega (arith, of .size, sample-along l i e s, sample-inside l (of .fits) i e s (record { line = is .line; element = lt; slot = is .slot })))
 
--- ---- a line and the single reads
+-- ---- a line of a file
 
 -- a line of a file: the layout is an AREA layout that opening the file gives, the channel means a slot, there is such a line, and the samples are those of
 -- the slot
@@ -120,28 +117,6 @@ line-exactly f l i c xs = (
         ),
       ),
 )
-
--- it has W10 samples, and each is what the single read of the same sample gives
-pub line-reads : (f : List ℕ) (l : Layout) (i : ℕ) (c : SlotOrBand) (xs : List ℕ) → (x : LineOf f l i c xs)
-    → (length xs ≡ x .area .elements) × ((e : ℕ) → e < x .area .elements → readSample f l i e c ≡ gives (getD xs e 0))
-unfolding slotLine
-line-reads f l i c xs x =
-    let a : AreaLayout = x .area in
-    let (layout, opens) = area-found f l a .0 (x .found) in
-    let sample : ℕ → ℕ = λ e. numberAt (a .order) (a .width) f (sampleAddress a i e (x .slot)) in (
-      ap length (x .samples) ∙ length-listOf sample (a .elements),
-      λ e lt.
-          sample-exactly f l i e c (getD xs e 0) .1
-          (record {
-            area = a;
-            slot = x .slot;
-            layout = layout;
-            opens = opens;
-            means = x .means;
-            is = record { line = x .line; element = lt; slot = slot-inside a c (x .slot) (x .means) };
-            value = ap (λ (l : List ℕ). getD l e 0) (x .samples) ∙ getD-listOf sample (a .elements) e 0 lt;
-          }),
-    )
 
 -- ---- stale layouts
 

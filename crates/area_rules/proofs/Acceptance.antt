@@ -13,7 +13,7 @@ use Rattle.area_rules.specs.Rules.{directoryOf, wordIn, areaOrder, areaR
 use Rattle.area_rules.specs.Opening.{areaLayoutOf, openAreaTold, openArea}
 use Rattle.area_rules.specs.Accepts.{AcceptsArea}
 use Rattle.area_rules.specs.declared.AreaLayout.{AreaLayout}
-use Rattle.area_rules.proofs.Words.{rules-exactly}
+use Rattle.area_rules.proofs.Words.{area-rules-exactly}
 
 -- the layout that the bytes d give, which a file of `told` bytes begins with
 abbrev pub layoutTold : ℕ → List ℕ → AreaLayout
@@ -24,7 +24,7 @@ pub told-exactly : (told : ℕ) (d : List ℕ) (l : AreaLayout) → (openAreaTol
 unfolding openAreaTold
 told-exactly told d l =
     let x = value-exactly (areaRules told d) (layoutTold told d) l in
-    let y = rules-exactly told d in
+    let y = area-rules-exactly told d in
     (λ e. (y .0 (x .0 e .0), x .0 e .1), λ a. x .1 (y .1 (a .0), a .1))
 
 -- and is refused exactly where a rule fails, by the first that does

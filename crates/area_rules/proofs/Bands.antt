@@ -66,10 +66,10 @@ band-exactly w19 w20 b =
     }
 
 -- a slot is answered exactly where the map is usable and has the band, and it is then the number of set bits below the band's own
-pub slot-exactly : (w19 w20 w14 b s : ℕ)
+pub band-slot-exactly : (w19 w20 w14 b s : ℕ)
     → (bandSlot w19 w20 w14 b ≡ gives s) ↔ ((setBelow w19 w20 64 ≡ w14) × (HasBand w19 w20 b × (s ≡ setBelow w19 w20 (b - 1))))
 unfolding bandSlot bandRules
-slot-exactly w19 w20 w14 b s =
+band-slot-exactly w19 w20 w14 b s =
     let x = value-exactly (bandRules w19 w20 w14 b) (setBelow w19 w20 (b - 1)) s in
     let y = band-exactly w19 w20 b in (
       λ e. let (hold, same) = x .0 e in (eqb-true (setBelow w19 w20 64) w14 (hold .0), (y .sound (hold .1 .0), same)),
@@ -79,14 +79,14 @@ slot-exactly w19 w20 w14 b s =
 -- the slot of a band is one of the slots of an element
 pub band-inside : (w19 w20 w14 b s : ℕ) → bandSlot w19 w20 w14 b ≡ gives s → s < w14
 band-inside w19 w20 w14 b s e =
-    let (all, (has, same)) = slot-exactly w19 w20 w14 b s .0 e in
+    let (all, (has, same)) = band-slot-exactly w19 w20 w14 b s .0 e in
     omega (arith, all, same, below-set w19 w20 (b - 1) 64 (has .set) (omega (arith, has .from, has .to)))
 
 -- no two bands have one slot
 pub band-only : (w19 w20 w14 b c s : ℕ) → bandSlot w19 w20 w14 b ≡ gives s → bandSlot w19 w20 w14 c ≡ gives s → b ≡ c
 band-only w19 w20 w14 b c s e f =
-    let (all, (has, same)) = slot-exactly w19 w20 w14 b s .0 e in
-    let (all′, (has′, same′)) = slot-exactly w19 w20 w14 c s .0 f in
+    let (all, (has, same)) = band-slot-exactly w19 w20 w14 b s .0 e in
+    let (all′, (has′, same′)) = band-slot-exactly w19 w20 w14 c s .0 f in
     ⊎-elim (λ q. omega (arith, q, has .from, has′ .from))
     (⊎-elim
     (λ lt. let z : ⊥ = omega (arith, same, same′, below-set w19 w20 (b - 1) (c - 1) (has .set) lt) in absurd z)
@@ -100,9 +100,9 @@ slot-itself l s t =
     (λ e. let (hold, same) = x .0 e in (ltb-true s (l .bands) (hold .0), same), λ h. x .1 ((lt-ltb s (l .bands) (h .0), tt), h .1))
 
 -- what a channel means is one of the slots of an element
-pub slot-inside : (l : AreaLayout) (c : SlotOrBand) (s : ℕ) → slotOf l c ≡ gives s → s < l .bands
-slot-inside l (Slot t) s e = omega (arith, slot-itself l t s .0 e .0, slot-itself l t s .0 e .1)
-slot-inside l (Band b) s e = band-inside (l .map) (l .map2) (l .bands) b s e
+pub named-slot-inside : (l : AreaLayout) (c : SlotOrBand) (s : ℕ) → slotOf l c ≡ gives s → s < l .bands
+named-slot-inside l (Slot t) s e = omega (arith, slot-itself l t s .0 e .0, slot-itself l t s .0 e .1)
+named-slot-inside l (Band b) s e = band-inside (l .map) (l .map2) (l .bands) b s e
 
 -- no number above 7 is given: 8 is left to stores, and 9 to layouts that are stale
 pub slot-never : (n : ℕ) → 7 < n → (l : AreaLayout) (c : SlotOrBand) → ¬ (slotOf l c ≡ refuses n 0)

@@ -45,7 +45,7 @@ pub width-bounds : (n : ℕ) → IsWidth n → (1 ≤ n) × (n ≤ 4)
 width-bounds n w = by-width (λ (x : ℕ). (1 ≤ x) × (x ≤ 4)) n w (omega arith, omega arith) (omega arith, omega arith) (omega arith, omega arith)
 
 -- What the counts give where they pass: both bounds of each. The products and sums of the later rules rest on this.
-pub record Counted (W : ℕ → ℕ) : Type 0 where
+pub record AreaCounted (W : ℕ → ℕ) : Type 0 where
   pub w9 : (1 ≤ W 9) × (W 9 ≤ 65535)
   pub w10 : (1 ≤ W 10) × (W 10 ≤ 65535)
   pub w11 : IsWidth (W 11)
@@ -57,7 +57,7 @@ pub record Counted (W : ℕ → ℕ) : Type 0 where
   pub w64 : (0 ≤ W 64) × (W 64 ≤ 65535)
 
 -- their rules hold exactly where they are so
-pub counts-exactly : (W : ℕ → ℕ) → Hold (areaCountRules W) ↔ Counted W
+pub counts-exactly : (W : ℕ → ℕ) → Hold (areaCountRules W) ↔ AreaCounted W
 unfolding areaCountRules
 counts-exactly W = (
   λ h.
@@ -86,7 +86,7 @@ counts-exactly W = (
 )
 
 -- where they pass
-pub counted : (W : ℕ → ℕ) → firstFault (areaCountRules W) ≡ Pass → Counted W
+pub counted : (W : ℕ → ℕ) → firstFault (areaCountRules W) ≡ Pass → AreaCounted W
 counted W e = counts-exactly W .0 (pass-hold (areaCountRules W) e)
 
 -- ---- the words that have a rule
@@ -95,7 +95,7 @@ counted W e = counts-exactly W .0 (pass-hold (areaCountRules W) e)
 pub line-most : (W : ℕ → ℕ) → firstFault (areaCountRules W) ≡ Pass → firstFault (areaShapeRules W) ≡ Pass → lineLengthOf W ≤ 16973569
 unfolding areaShapeRules
 line-most W e f =
-    let k : Counted W = counted W e in
+    let k : AreaCounted W = counted W e in
     let prefix : W 15 ≡ prefixLengthOf W = eqb-true (W 15) (prefixLengthOf W) (pass-hold (areaShapeRules W) f .1 .1 .1 .0) in
     let samples : W 14 * W 10 * W 11 ≤ 64 * 65535 * 4 = mul-le-mul (mul-le-mul (k .w14 .1) (k .w10 .1)) (width-bounds (W 11) (k .w11) .1) in
     omega (arith, prefix, samples, code (eqb (W 36) 0), k .w49 .1, k .w50 .1, k .w51 .1)

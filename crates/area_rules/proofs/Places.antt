@@ -11,7 +11,7 @@ use Rattle.area_rules.specs.Samples.{lineStart, sampleAddress, IsSample,
 use Rattle.area_rules.specs.declared.AreaLayout.{AreaLayout}
 use Rattle.area_rules.specs.Bands.{slotOf}
 use Rattle.area_rules.specs.declared.SlotOrBand.{SlotOrBand}
-use Rattle.area_rules.proofs.Bands.{slot-inside, slot-never}
+use Rattle.area_rules.proofs.Bands.{named-slot-inside, slot-never}
 use Rattle.area_rules.specs.Places.{lineRules, lineStartOf, sampleRules, samplePlace}
 use Rattle.area_rules.proofs.Bounds.{area-bounds, area-bounded}
 use Rattle.area_rules.proofs.Tables.{lines-hold, samples-hold}
@@ -33,7 +33,7 @@ module _ (l : AreaLayout) (fits : AreaFits l) where
         let (s, slot, given) = then-gives _ (slotOf l c) p .0 q in
         let (hold, same) = value-exactly (sampleRules l i e) (place (sampleAddress l i e s) (l .width)) p .0 given in
         let (bounds, (line, element)) = samples-hold l i e .0 hold in
-        (s, slot, (record { line = line; element = element; slot = slot-inside l c s slot }, same)),
+        (s, slot, (record { line = line; element = element; slot = named-slot-inside l c s slot }, same)),
     λ x.
         let (s, slot, (is, same)) = x in
         then-gives _ (slotOf l c) p .1 (

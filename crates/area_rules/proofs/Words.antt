@@ -17,7 +17,7 @@ use Rattle.refusal_rules.proofs.Tables.{hold-append, also}
 use Rattle.refusal_rules.proofs.Exactness.{le-exactly, lt-exactly, eq-exactly, not-exactly, iff-exactly, true-exactly, both-exactly, either-exactly}
 use Rattle.area_rules.specs.Rules.{directoryOf, wordIn, readsFour, areaOrder, multipleOfFour, prefixLengthOf, lineLengthOf, auditEndOf, blockStartFits, areaCountRules, areaShapeRules, areaPlaceRules, areaDescribedRules, areaWordRules, areaRules}
 use Rattle.area_rules.specs.Accepts.{BlockStartFits, AcceptsAreaWords, AcceptsArea}
-use Rattle.area_rules.proofs.Counts.{Counted, counts-exactly}
+use Rattle.area_rules.proofs.Counts.{AreaCounted, counts-exactly}
 
 -- ---- what each test says
 
@@ -56,7 +56,7 @@ module _ (told : ℕ) (W : ℕ → ℕ) where
       (BlockStartFits told (W 34) (auditEndOf W) (W 60) ((¬ (W 60 ≡ W 35)) × (¬ (W 60 ≡ W 63))))
   aux-exactly = start-exactly told W (W 60) (both-exactly (unequal-exactly (W 60) (W 35)) (unequal-exactly (W 60) (W 63)))
 
-  hold-shapes-places : Counted W → Hold (areaShapeRules W) → Hold (areaPlaceRules told W) → AcceptsAreaWords told W
+  hold-shapes-places : AreaCounted W → Hold (areaShapeRules W) → Hold (areaPlaceRules told W) → AcceptsAreaWords told W
   unfolding areaShapeRules areaPlaceRules
   hold-shapes-places k shape place =
       record {
@@ -124,9 +124,9 @@ two-exactly : (d : List ℕ) → Exactly (either (readsFour Big d) (readsFour Li
 two-exactly d = either-exactly (eq-exactly (wordAt Big d 1) 4) (eq-exactly (wordAt Little d 1) 4)
 
 -- all rules hold exactly where they are accepted
-pub rules-exactly : (told : ℕ) (d : List ℕ) → Hold (areaRules told d) ↔ AcceptsArea told d
+pub area-rules-exactly : (told : ℕ) (d : List ℕ) → Hold (areaRules told d) ↔ AcceptsArea told d
 unfolding areaRules
-rules-exactly told d =
+area-rules-exactly told d =
     let x = words-exactly told (wordIn (directoryOf (areaOrder d) d)) in (
       λ h.
           record {

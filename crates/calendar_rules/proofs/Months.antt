@@ -17,8 +17,8 @@ use Rattle.calendar_rules.specs.Gregorian.{daysBefore, yearLength, lastB
 -- ---- the table
 
 -- the table of the code: a common year, and then a leap year
-abbrev pub table : List ℕ
-table =
+abbrev pub daysTable : List ℕ
+daysTable =
     0 ∷ 31 ∷ 59 ∷ 90 ∷ 120 ∷ 151 ∷ 181 ∷ 212 ∷ 243 ∷ 273 ∷ 304 ∷ 334
     ∷ 0 ∷ 31 ∷ 60 ∷ 91 ∷ 121 ∷ 152 ∷ 182 ∷ 213 ∷ 244 ∷ 274 ∷ 305 ∷ 335
     ∷ []
@@ -28,16 +28,16 @@ table =
 rightEntry : ℕ → ℕ → Bool
 rightEntry k x = eqb x (daysBefore (leb 12 k) (k % 12))
 
-table-rule : (k : ℕ) → k < 24 → getD table k 0 ≡ daysBefore (leb 12 k) (k % 12)
+table-rule : (k : ℕ) → k < 24 → getD daysTable k 0 ≡ daysBefore (leb 12 k) (k % 12)
 unfolding rightEntry daysBefore
-table-rule k h = eqb-true (getD table k 0) (daysBefore (leb 12 k) (k % 12)) (every-at rightEntry table 0 refl k h)
+table-rule k h = eqb-true (getD daysTable k 0) (daysBefore (leb 12 k) (k % 12)) (every-at rightEntry daysTable 0 refl k h)
 
-pub common-entry : (month : ℕ) → month < 12 → getD table month 0 ≡ daysBefore false month
+pub common-entry : (month : ℕ) → month < 12 → getD daysTable month 0 ≡ daysBefore false month
 common-entry month h =
     let e : month % 12 ≡ month = omega arith in
     table-rule month (omega arith) ∙ ap₂ daysBefore (lt-leb 12 month h) e
 
-pub leap-entry : (month : ℕ) → month < 12 → getD table (12 + month) 0 ≡ daysBefore true month
+pub leap-entry : (month : ℕ) → month < 12 → getD daysTable (12 + month) 0 ≡ daysBefore true month
 leap-entry month h =
     let e : (12 + month) % 12 ≡ month = omega arith in
     table-rule (12 + month) (omega arith) ∙ ap₂ daysBefore (le-leb 12 (12 + month) (omega arith)) e

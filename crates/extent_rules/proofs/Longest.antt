@@ -127,28 +127,28 @@ module _ (w : ℕ → ℕ) (whole : ℕ) where
       before (inr x) = inr (r .before x)
 
   -- e is a free stretch and has word p
-  abbrev pub Covers : Extent → ℕ → Type 0
-  Covers e p = List·Memᴰ e (freeStretches w whole) × ((e .start ≤ p) × (p < extentEnd e))
+  abbrev pub StretchWith : Extent → ℕ → Type 0
+  StretchWith e p = List·Memᴰ e (freeStretches w whole) × ((e .start ≤ p) × (p < extentEnd e))
 
   -- the free stretch that starts at a word has it
-  start-covered : (p : ℕ) → firstWord w ≤ p → p < whole → isFree w p ≡ true → (p ≡ firstWord w) ⊎ (isFree w (p - 1) ≡ false) → (e : Extent) × Covers e p
+  start-covered : (p : ℕ) → firstWord w ≤ p → p < whole → isFree w p ≡ true → (p ≡ firstWord w) ⊎ (isFree w (p - 1) ≡ false) → (e : Extent) × StretchWith e p
   unfolding runFrom
   start-covered p from to free before =
       let e : stretchStarts w p ≡ true = starts-exactly w p .complete (free, before) in
       (runFrom w whole p, (is-stretch p from to e, (omega arith, omega (arith, run-some w whole p (runFrom w whole p) (run-at w whole p (omega arith)) to free))))
 
-  covered : (i : ℕ) → firstWord w + i < whole → isFree w (firstWord w + i) ≡ true → (e : Extent) × Covers e (firstWord w + i)
+  covered : (i : ℕ) → firstWord w + i < whole → isFree w (firstWord w + i) ≡ true → (e : Extent) × StretchWith e (firstWord w + i)
   covered zero to free = start-covered (firstWord w + 0) (omega arith) to free (inl (omega arith))
   covered (suc i) to free = step (isFree w (firstWord w + i)) refl (λ h. covered i (omega arith) h)
     where
-      step : (b : Bool) → isFree w (firstWord w + i) ≡ b → (isFree w (firstWord w + i) ≡ true → (e : Extent) × Covers e (firstWord w + i))
-          → (e : Extent) × Covers e (firstWord w + suc i)
+      step : (b : Bool) → isFree w (firstWord w + i) ≡ b → (isFree w (firstWord w + i) ≡ true → (e : Extent) × StretchWith e (firstWord w + i))
+          → (e : Extent) × StretchWith e (firstWord w + suc i)
       step false h before =
           let same : firstWord w + suc i - 1 ≡ firstWord w + i = omega arith in
           start-covered (firstWord w + suc i) (omega arith) to free (inr (rw same h))
       step true h before = more (before h)
         where
-          more : (e : Extent) × Covers e (firstWord w + i) → (e : Extent) × Covers e (firstWord w + suc i)
+          more : (e : Extent) × StretchWith e (firstWord w + i) → (e : Extent) × StretchWith e (firstWord w + suc i)
           more c = (c .0, (c .1 .0, (omega (arith, c .1 .1 .0), beyond (eq-or-lt-of-le (c .1 .1 .1)))))
             where
               beyond : (suc (firstWord w + i) ≡ extentEnd (c .0)) ⊎ (suc (firstWord w + i) < extentEnd (c .0)) → firstWord w + suc i < extentEnd (c .0)
@@ -158,10 +158,10 @@ module _ (w : ℕ → ℕ) (whole : ℕ) where
                   absurd (false≢true (sym (rw same at (stretch-longest (c .0) (c .1 .0) .behind (omega (arith, same, to)))) ∙ free))
 
   -- every free word from 12 + n to the file's last whole word is in a free stretch
-  pub free-covered : (p : ℕ) → firstWord w ≤ p → p < whole → isFree w p ≡ true → (e : Extent) × Covers e p
+  pub free-covered : (p : ℕ) → firstWord w ≤ p → p < whole → isFree w p ≡ true → (e : Extent) × StretchWith e p
   free-covered p from to free =
       let same : firstWord w + (p - firstWord w) ≡ p = omega arith in
-      subst (λ (q : ℕ). (e : Extent) × Covers e q) same (covered (p - firstWord w) (omega arith) (rw same free))
+      subst (λ (q : ℕ). (e : Extent) × StretchWith e q) same (covered (p - firstWord w) (omega arith) (rw same free))
 
 -- ---- their order
 

@@ -270,17 +270,17 @@ module _ (o : Order) (f : List ℕ) (a : GridAccepted o f) where
 -- ---- how many free stretches there are
 
 -- how many of the numbers below n a test holds of
-unfoldable pub count : (ℕ → Bool) → ℕ → ℕ
-count t zero = 0
-count t (suc n) = count t n + pick (t n) 1 0
+unfoldable pub howMany : (ℕ → Bool) → ℕ → ℕ
+howMany t zero = 0
+howMany t (suc n) = howMany t n + pick (t n) 1 0
 
 one-most : (b : Bool) → pick b 1 0 ≤ 1
 one-most true = omega arith
 one-most false = omega arith
 
 -- no more than n
-pub count-most : (t : ℕ → Bool) (n : ℕ) → count t n ≤ n
-unfolding count
+pub count-most : (t : ℕ → Bool) (n : ℕ) → howMany t n ≤ n
+unfolding howMany
 count-most t zero = omega arith
 count-most t (suc n) = omega (arith, count-most t n, one-most (t n))
 
@@ -296,14 +296,14 @@ module _ (t u : ℕ → Bool) where
       step false false g = omega arith
 
   -- a test that holds wherever another does holds of no fewer
-  pub count-le : (n : ℕ) → ((k : ℕ) → k < n → t k ≡ true → u k ≡ true) → count t n ≤ count u n
-  unfolding count
+  pub count-le : (n : ℕ) → ((k : ℕ) → k < n → t k ≡ true → u k ≡ true) → howMany t n ≤ howMany u n
+  unfolding howMany
   count-le zero h = omega arith
   count-le (suc n) h = omega (arith, count-le n (λ k l. h k (omega arith)), one-le n (h n (omega arith)))
 
   -- and of more where the other fails of one
-  pub count-lt : (n : ℕ) → ((k : ℕ) → k < n → t k ≡ true → u k ≡ true) → (j : ℕ) → j < n → t j ≡ false → u j ≡ true → count t n < count u n
-  unfolding count
+  pub count-lt : (n : ℕ) → ((k : ℕ) → k < n → t k ≡ true → u k ≡ true) → (j : ℕ) → j < n → t j ≡ false → u j ≡ true → howMany t n < howMany u n
+  unfolding howMany
   count-lt zero h j l e g = let z : ⊥ = omega arith in absurd z
   count-lt (suc n) h j l e g =
       ⊎-elim
@@ -314,8 +314,8 @@ module _ (t u : ℕ → Bool) where
       (eq-or-lt-of-le (le-of-suc-le-suc l))
 
   -- one that holds wherever another does but of one number holds of at most one less
-  pub count-but : (n a : ℕ) → ((k : ℕ) → k < n → ¬ (k ≡ a) → t k ≡ true → u k ≡ true) → count t n ≤ count u n + 1
-  unfolding count
+  pub count-but : (n a : ℕ) → ((k : ℕ) → k < n → ¬ (k ≡ a) → t k ≡ true → u k ≡ true) → howMany t n ≤ howMany u n + 1
+  unfolding howMany
   count-but zero a h = omega arith
   count-but (suc n) a h =
       ⊎-elim
@@ -326,13 +326,13 @@ module _ (t u : ℕ → Bool) where
       (compared n a)
 
 -- lines of one element where a test holds, and of none elsewhere
-counted : {A : Type 0} (g : ℕ → List A) (t : ℕ → Bool) → ((i : ℕ) → length (g i) ≡ pick (t i) 1 0) → (n : ℕ) → length (linesOf g n) ≡ count t n
-unfolding linesOf count
+counted : {A : Type 0} (g : ℕ → List A) (t : ℕ → Bool) → ((i : ℕ) → length (g i) ≡ pick (t i) 1 0) → (n : ℕ) → length (linesOf g n) ≡ howMany t n
+unfolding linesOf howMany
 counted g t h zero = refl
 counted g t h (suc n) = length-append (linesOf g n) (g n) ∙ ap₂ _+_ (counted g t h n) (h n)
 
 -- there are as many free stretches as words at which one starts
-pub stretches-count : (w : ℕ → ℕ) (whole : ℕ) → length (freeStretches w whole) ≡ count (λ i. stretchStarts w (firstWord w + i)) (whole - firstWord w)
+pub stretches-count : (w : ℕ → ℕ) (whole : ℕ) → length (freeStretches w whole) ≡ howMany (λ i. stretchStarts w (firstWord w + i)) (whole - firstWord w)
 unfolding freeStretches
 stretches-count w whole = lines (whole - firstWord w)
   where
@@ -343,7 +343,7 @@ stretches-count w whole = lines (whole - firstWord w)
         step true e = ap length (stretch-one w whole p e)
         step false e = ap length (stretch-none w whole p e)
 
-    lines : (n : ℕ) → length (linesOf (λ i. stretchAt w whole (firstWord w + i)) n) ≡ count (λ i. stretchStarts w (firstWord w + i)) n
+    lines : (n : ℕ) → length (linesOf (λ i. stretchAt w whole (firstWord w + i)) n) ≡ howMany (λ i. stretchStarts w (firstWord w + i)) n
     lines = counted (λ i. stretchAt w whole (firstWord w + i)) (λ i. stretchStarts w (firstWord w + i)) (λ i. one (firstWord w + i))
 
 -- where each stretch of one file's words but one starts a stretch of another's too, the other has at most one less
@@ -369,7 +369,7 @@ module _ (w : ℕ → ℕ) where
       ends-exactly (suc q) k .complete (x .0, omega (arith, x .1))
 
   -- and of more, where a free stretch starts there behind a word that is not free
-  ends-more : (q : ℕ) → firstWord w ≤ q → stretchStarts w (suc q) ≡ true → count (endsBy q) (w 10) < count (endsBy (suc q)) (w 10)
+  ends-more : (q : ℕ) → firstWord w ≤ q → stretchStarts w (suc q) ≡ true → howMany (endsBy q) (w 10) < howMany (endsBy (suc q)) (w 10)
   ends-more q l e =
       let s = starts-exactly w (suc q) .sound e in
       let taken : isFree w q ≡ false = ⊎-elim (λ x. let z : ⊥ = omega (arith, x, l) in absurd z) (λ x. subst (λ (i : ℕ). isFree w i ≡ false) (same q) x) (s .1) in
@@ -378,7 +378,7 @@ module _ (w : ℕ → ℕ) where
       same : (i : ℕ) → suc i - 1 ≡ i
       same i = omega arith
 
-      found : isFree w (suc q) ≡ true → (k : ℕ) × Has w q k → count (endsBy q) (w 10) < count (endsBy (suc q)) (w 10)
+      found : isFree w (suc q) ≡ true → (k : ℕ) × Has w q k → howMany (endsBy q) (w 10) < howMany (endsBy (suc q)) (w 10)
       found free r =
           let h : Has w q (r .0) = r .1 in
           let end : gridEnd w (w (11 + r .0)) ≤ suc q =
@@ -389,23 +389,23 @@ module _ (w : ℕ → ℕ) where
           (ends-exactly (suc q) (r .0) .complete (h .full, end))
 
   -- the words up to 12 + n + m at which a free stretch starts are at most one more than the grids that end by there
-  starts-few : (m : ℕ) → count (λ i. stretchStarts w (firstWord w + i)) (suc m) ≤ count (endsBy (firstWord w + m)) (w 10) + 1
-  unfolding count
+  starts-few : (m : ℕ) → howMany (λ i. stretchStarts w (firstWord w + i)) (suc m) ≤ howMany (endsBy (firstWord w + m)) (w 10) + 1
+  unfolding howMany
   starts-few zero = omega (arith, one-most (stretchStarts w (firstWord w + 0)))
   starts-few (suc m) = rw add-suc (step (stretchStarts w (suc (firstWord w + m))) refl (starts-few m))
     where
       step : (b : Bool) → stretchStarts w (suc (firstWord w + m)) ≡ b
-          → count (λ i. stretchStarts w (firstWord w + i)) (suc m) ≤ count (endsBy (firstWord w + m)) (w 10) + 1
-          → count (λ i. stretchStarts w (firstWord w + i)) (suc m) + pick b 1 0 ≤ count (endsBy (suc (firstWord w + m))) (w 10) + 1
+          → howMany (λ i. stretchStarts w (firstWord w + i)) (suc m) ≤ howMany (endsBy (firstWord w + m)) (w 10) + 1
+          → howMany (λ i. stretchStarts w (firstWord w + i)) (suc m) + pick b 1 0 ≤ howMany (endsBy (suc (firstWord w + m))) (w 10) + 1
       step true e before = omega (arith, before, ends-more (firstWord w + m) (omega arith) e)
       step false e before =
           omega (arith, before, count-le (endsBy (firstWord w + m)) (endsBy (suc (firstWord w + m))) (w 10) (ends-later (firstWord w + m)))
 
   -- there are at most n + 1 free stretches
   pub stretches-few : (whole : ℕ) → length (freeStretches w whole) ≤ w 10 + 1
-  unfolding count
+  unfolding howMany
   stretches-few whole = rw (stretches-count w whole) (step (whole - firstWord w))
     where
-      step : (m : ℕ) → count (λ i. stretchStarts w (firstWord w + i)) m ≤ w 10 + 1
+      step : (m : ℕ) → howMany (λ i. stretchStarts w (firstWord w + i)) m ≤ w 10 + 1
       step zero = omega arith
       step (suc m) = omega (arith, starts-few m, count-most (endsBy (firstWord w + m)) (w 10))

@@ -22,28 +22,28 @@ use Rattle.endian_rules.proofs.Order.Laws as O′
 use Rattle.extent_rules.specs.declared.Extent.{Extent}
 use Rattle.extent_rules.proofs.Extent as X
 use Rattle.extent_rules.proofs.Extent.Laws as X′
-use Rattle.walks.proofs.Calls.{at-value, Told}
+use Rattle.walks.proofs.Calls.{at-value, ValueIs}
 use Rattle.walks.proofs.Known.{Value, enum, struct}
 
 -- an extent's machine value
-abbrev pub value : Extent → Val
-value e = LL.val X.the-type X′.the-laws e
+abbrev pub extent-value : Extent → Val
+extent-value e = LL.val X.the-type X′.the-laws e
 
 -- the same, as a list
-abbrev pub values : Extent → List Val
-values = LL.vals X.the-type X′.the-laws
+abbrev pub extent-values : Extent → List Val
+extent-values = LL.vals X.the-type X′.the-laws
 
 -- it can only be that
-abbrev pub tells : Tells X.the-row (Is X.the-row) values
-tells = LL.tells X.the-type X′.the-laws
+abbrev pub extent-tells : Tells X.the-row (Is X.the-row) extent-values
+extent-tells = LL.tells X.the-type X′.the-laws
 
 -- an extent's relation at its machine value, written out
-pub told : (e : Extent) (w : Val) → Is X.the-row e (w ∷ []) → Is X.the-row e (value e ∷ [])
-told e w = at-value X.the-row values tells e (w ∷ [])
+pub extent-told : (e : Extent) (w : Val) → Is X.the-row e (w ∷ []) → Is X.the-row e (extent-value e ∷ [])
+extent-told e w = at-value X.the-row extent-values extent-tells e (w ∷ [])
 
 -- a call has answered u, the machine value of e
 abbrev pub ToldExtent : Extent → Val → Type 0
-ToldExtent = Told X.the-row values
+ToldExtent = ValueIs X.the-row extent-values
 
 -- an order's machine value
 abbrev pub order-value : Order → Val

@@ -65,23 +65,23 @@ same-grid-exactly = by-numbers gridNumbers numbers-settle
 -- ---- opening by the file's verdict
 
 -- the answer after a verdict: the verdict's fault, or the answer
-abbrev pub after : Verdict → Answer GridLayout → Answer GridLayout
-after Pass a = a
-after (Fault r) a = refuses (r .number) (r .place)
+abbrev pub afterVerdict : Verdict → Answer GridLayout → Answer GridLayout
+afterVerdict Pass a = a
+afterVerdict (Fault r) a = refuses (r .number) (r .place)
 
-answered-first : (a b : Verdict) (l : GridLayout) → answered (first a b) l ≡ after a (answered b l)
+answered-first : (a b : Verdict) (l : GridLayout) → answered (first a b) l ≡ afterVerdict a (answered b l)
 unfolding first
 answered-first Pass b l = refl
 answered-first (Fault r) b l = refl
 
 -- opening is `openWanted` where the file's verdict is a pass, and refuses the file's fault otherwise
 pub open-split : (o : Order) (len : ℕ) (w : ℕ → ℕ) (number : ℕ) (v : Verdict) → firstFault (gridFileRules len w) ≡ v
-    → openGridWords o len w number ≡ after v (openWanted o len w number)
+    → openGridWords o len w number ≡ afterVerdict v (openWanted o len w number)
 unfolding openGridWords openWanted
 open-split o len w number v e =
     ap (λ (x : Verdict). answered x (gridLayoutOf o len w number)) (firstFault-append (gridFileRules len w) (wantedRules w number))
     ∙ answered-first (firstFault (gridFileRules len w)) (firstFault (wantedRules w number)) (gridLayoutOf o len w number)
-    ∙ ap (λ (x : Verdict). after x (openWanted o len w number)) e
+    ∙ ap (λ (x : Verdict). afterVerdict x (openWanted o len w number)) e
 
 -- ---- what acceptance is
 

@@ -19,7 +19,7 @@ use Rattle.grid_rules.specs.Rules.{nextFree, emptySlot, isEmptySlot, gri
 use Rattle.grid_rules.specs.Accepts.{FullSlot}
 use Rattle.grid_rules.specs.Opening.{gridLayoutOf, openWanted, openGridWords, openGrid}
 use Rattle.grid_rules.proofs.Slots.{number-slot, empty-slot, full-slot}
-use Rattle.grid_rules.proofs.Acceptance.{after, open-split}
+use Rattle.grid_rules.proofs.Acceptance.{afterVerdict, open-split}
 
 -- the words v are the words w in what opening reads of the slot whose offset is word i: the offset, and where it has a grid the grid's size, rows
 -- and columns
@@ -123,7 +123,7 @@ module _ (w v : ℕ → ℕ) (s : SameWords w v) where
   pub open-same : (o : Order) (len number : ℕ) → openGridWords o len v number ≡ openGridWords o len w number
   open-same o len number =
       open-split o len v number (firstFault (gridFileRules len w)) (ap firstFault (file-same len))
-      ∙ ap (after (firstFault (gridFileRules len w))) (wanted-same w v o len number (s .count) (number-same number))
+      ∙ ap (afterVerdict (firstFault (gridFileRules len w))) (wanted-same w v o len number (s .count) (number-same number))
       ∙ sym (open-split o len w number (firstFault (gridFileRules len w)) refl)
 
 -- two files of one length that agree on what opening reads of the first open alike

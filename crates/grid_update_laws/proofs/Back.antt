@@ -32,7 +32,7 @@ use Rattle.value_rules.proofs.Reading.{point-exactly}
 use Rattle.copy_rules.specs.Runs.{copied}
 use Rattle.span_rules.specs.Spans.{span, handed}
 use Rattle.grid_part_rules.specs.Grids.{pointAt, byColumns, byRows}
-use Rattle.grid_part_rules.proofs.Grids.{columns-point}
+use Rattle.copy_laws.proofs.Grids.{columns-point}
 use Rattle.grid_update_rules.specs.Updates.{gridWords, addRules, gridBytes, gridPut, withGrid}
 use Rattle.grid_update_rules.proofs.Words.{set-byte}
 use Rattle.grid_update_rules.proofs.Highest.{next-byte, next-count}

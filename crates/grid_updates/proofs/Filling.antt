@@ -33,7 +33,7 @@ use Rattle.extent_table_steps.proofs.fill as fill
 use Rattle.extent_table_steps.proofs.fill.Symbol.{name as #fill}
 use Rattle.walks.proofs.Calls.{Yields}
 use Rattle.walks.proofs.Contracts.{Contracted}
-use Rattle.walks.proofs.Held.{Holds}
+use Rattle.walks.proofs.Held.{HasSlice}
 use Rattle.walks.proofs.Known.{number}
 use Rattle.walks.proofs.LentCalls.{lends-both}
 
@@ -44,11 +44,11 @@ Filling 𝓤 H A mem runs = Contracted 𝓤 H A fill.ended (fill.clauses 𝓤 H 
 module _ (ℓ ℓ′ : Lifetime) (κ κ′ : Lft) (q q′ : Share) (table : RefT (List Extent)) (file : RefT (List ℕ)) (tv fv : Val) where
   -- the table, as it is held
   abbrev pub Table : List Extent → Fml
-  Table = Holds X.the-row ℓ κ q table tv
+  Table = HasSlice X.the-row ℓ κ q table tv
 
   -- the file, as it is held
   abbrev pub File : List ℕ → Fml
-  File = Holds u8 ℓ′ κ′ q′ file fv
+  File = HasSlice u8 ℓ′ κ′ q′ file fv
 
   module _ {M : Type 1} (𝓤 : URA M) (H : Heap 𝓤) (A : Atoms 𝓤) (W : Given 𝓤 H A) (C : Calls 𝓤 H) (fm : FmC 𝓤 H (W .laws) C) (t : List Extent) (f : List ℕ)
       (mem : Memory → SProp 𝓤) (runs : Routine → Fun 𝓤) (o : Order) (n : ℕ) where

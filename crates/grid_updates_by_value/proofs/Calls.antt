@@ -36,16 +36,16 @@ use denote.Triple.Entry.{alive}
 use denote.Triple.Statement.{Contract, Triple}
 use Rattle.extent_rules.specs.declared.Extent.{Extent}
 use Rattle.extent_rules.proofs.Extent as X
-use Rattle.walks.proofs.Calls.{asks, answers}
+use Rattle.walks.proofs.Calls.{asks, call-answers}
 use Rattle.walks.proofs.Contracts.{Contracted}
 use Rattle.walks.proofs.Known.{Known, ended}
-use Rattle.grid_updates_by_value.proofs.Lent.{places, fresh, fresh-val, Table, τ, AsField, IsTable, lent-at, typed, lends-table, takes-table}
+use Rattle.grid_updates_by_value.proofs.Lent.{places, fresh, fresh-val, OwnTable, τ, AsField, IsTable, lent-at, table-typed, lends-table, takes-table}
 
 -- a struct of an answer's machine value and a table's
 abbrev pub pair : Val → Val → Val
 pair w v = vstruct (ofList (w ∷ v ∷ []))
 
-pub record Handed : Type 2 where
+pub record HandedBack : Type 2 where
   pub answer : RattleType
   pub both : RattleType
   pub make : answer .Denot → List Extent → both .Denot
@@ -55,7 +55,7 @@ pub record Handed : Type 2 where
   pub both-makes : {M : Type 1} (𝓤 : URA M) (H : Heap 𝓤) (A : Atoms 𝓤) → Makes 𝓤 H A both (Is both)
 
 pub record Call {M : Type 1} (𝓤 : URA M) : Type 2 where
-  pub handed : Handed
+  pub handed : HandedBack
   pub lifetimes : ℕ
   pub params : List (Known lifetimes)
   pub clauses : Clauses 𝓤 (ended params (plain (λ _. handed .both)))
@@ -65,9 +65,9 @@ pub record Call {M : Type 1} (𝓤 : URA M) : Type 2 where
   pub table-lifetime : Lifetime
 
 module _ {M : Type 1} (𝓤 : URA M) (H : Heap 𝓤) (A : Atoms 𝓤) where
-  module _ (h : Handed) where
+  module _ (h : HandedBack) where
     abbrev pub Types : Val → Val → Type 0
-    Types w v = Typed (h .answer .mir) (w ∷ []) × (Typed (Table .mir) (v ∷ []) × Typed (h .both .mir) (pair w v ∷ []))
+    Types w v = Typed (h .answer .mir) (w ∷ []) × (Typed (OwnTable .mir) (v ∷ []) × Typed (h .both .mir) (pair w v ∷ []))
 
     abbrev pub Landed : ℕ → (Val → SProp 𝓤) → Val → SProp 𝓤
     Landed b K w = H .⇛ (ex 𝓤 (λ (v : Val). guard 𝓤 (Types w v) (sep 𝓤 (H .at fullShare τ b 0 v) (K (pair w v)))))
@@ -124,7 +124,7 @@ module _ {M : Type 1} (𝓤 : URA M) (H : Heap 𝓤) (A : Atoms 𝓤) where
         (lends-table 𝓤 H A W b (k .table-lifetime) (ν ∷ [])) $ await ! tt $ pick ! (λ γ. split ! $ move ! (3 ∷ 2 ∷ 0 ∷ []) $
         use3 W (raw (Callee k .pre (to ν γ))) (lent ν γ) $ at-once ! $
         regoal ! (λ (us : List Val). prop (C f us (Landed (k .handed) b (Own k .post y)))) (sym (vs-are ν γ)) refl $
-        asks ! fm (Callee k) known (to ν γ) (λ w. updating ! $ answers ! (callee k) (k .callee-clauses) (to ν γ) w (λ r is ws.
+        asks ! fm (Callee k) known (to ν γ) (λ w. updating ! $ call-answers ! (callee k) (k .callee-clauses) (to ν γ) w (λ r is ws.
         -- [what the callee promises; its tokens; the last lists; the lender's part]
         use3 W (some (λ (ys : List Extent). (‵ (flft (ν ∷ []) fullShare) ⊛ ‵ (finally X.the-row γ ys)) ⊛ (raw Tokens ⊛ raw (Promised (k .handed .make r ys)))))
         (back ν γ r ws) $ pick ! (λ ys. split ! $ split ! $
@@ -137,7 +137,7 @@ module _ {M : Type 1} (𝓤 : URA M) (H : Heap 𝓤) (A : Atoms 𝓤) where
         check ! (
           k .handed .answer-lawful 𝓤 H A W .typed r (w ∷ []) is,
           (
-            typed 𝓤 H A W ys (arrayVal us) (has .0),
+            table-typed 𝓤 H A W ys (arrayVal us) (has .0),
             k .handed .both-lawful 𝓤 H A W .typed (k .handed .make r ys) (pair w (arrayVal us) ∷ []) is-d,
           ),
         ) $ frame ! $

@@ -7,7 +7,7 @@
 --     lent-at          the `&mut` of a table at an address
 --     IsTable            that a value is the machine value of a table, as a local has it and as a field has it
 --     typed            such a value is of the table's MIR type
---     lends-table      the cell of a fresh table  ⊢ ⇛ ∃ γ. own (the `&κ mut [Extent]` ((b, 0), γ, fresh)) ∗ the lender's part (`Lent`)
+--     lends-table      the cell of a fresh table  ⊢ ⇛ ∃ γ. own (the `&κ mut [Extent]` ((b, 0), γ, fresh)) ∗ the lender's part (`LentTable`)
 --     takes-table      [†κ] ∗ the lender's part ∗ finally γ ys  ⊢ ⇛ ∃ us. the cell again, with us, which are the machine values of ys (`Taken`)
 -- Assumes nothing.
 use mathlib.Core.Path.{refl, sym, _∙_, subst}
@@ -62,8 +62,8 @@ none-val = LL.val X.the-type X′.the-laws noWords
 pub none-is : Is X.the-row noWords (none-val ∷ [])
 none-is = LL.owes X.the-type X′.the-laws noWords ((refl, omega arith), ((refl, omega arith), tt))
 
-abbrev pub Table : RattleType
-Table = Array X.the-row places
+abbrev pub OwnTable : RattleType
+OwnTable = Array X.the-row places
 
 abbrev pub fresh : List Extent
 fresh = replicate places noWords
@@ -71,7 +71,7 @@ fresh = replicate places noWords
 abbrev pub fresh-val : Val
 fresh-val = arrayVal (replicate places none-val)
 
-pub fresh-is : Is Table fresh (fresh-val ∷ [])
+pub fresh-is : Is OwnTable fresh (fresh-val ∷ [])
 fresh-is = (replicate places none-val, ((refl, length-replicate places noWords), each-repeats X.the-row noWords none-val none-is places))
 
 -- ---- a table as a field of a struct has it
@@ -87,11 +87,11 @@ each-field (y ∷ ys) (u ∷ us) s = (s .0, each-field ys us (s .1))
 abbrev pub AsField : List Extent → Val → Type 0
 AsField ys v = Is (Array F places) (map (X.the-field .into) ys) (v ∷ [])
 
-as-field : (ys : List Extent) (v : Val) → Is Table ys (v ∷ []) → AsField ys v
+as-field : (ys : List Extent) (v : Val) → Is OwnTable ys (v ∷ []) → AsField ys v
 as-field ys v p = (p .0, ((p .1 .0 .0, length-map ys (X.the-field .into) ∙ p .1 .0 .1), each-field ys (p .0) (p .1 .1)))
 
 abbrev pub IsTable : List Extent → Val → Type 0
-IsTable ys v = Is Table ys (v ∷ []) × AsField ys v
+IsTable ys v = Is OwnTable ys (v ∷ []) × AsField ys v
 
 -- ---- lent, and taken back
 abbrev pub lent-at : ℕ → GName → List Extent → RefT (List Extent)
@@ -101,20 +101,20 @@ abbrev pub τ : Ty
 τ = tyArray (lone (X.the-row .mir)) places
 
 module _ {M : Type 1} (𝓤 : URA M) (H : Heap 𝓤) (A : Atoms 𝓤) (W : Given 𝓤 H A) where
-  pub typed : (ys : List Extent) (v : Val) → Is Table ys (v ∷ []) → Typed (Table .mir) (v ∷ [])
-  typed ys v = array-lawful 𝓤 H A W X.the-row (LL.lawful X.the-type X′.the-laws 𝓤 H A W) places .typed ys (v ∷ [])
+  pub table-typed : (ys : List Extent) (v : Val) → Is OwnTable ys (v ∷ []) → Typed (OwnTable .mir) (v ∷ [])
+  table-typed ys v = array-lawful 𝓤 H A W X.the-row (LL.lawful X.the-type X′.the-laws 𝓤 H A W) places .typed ys (v ∷ [])
 
   module _ (b : ℕ) where
-    abbrev pub Lent : Lifetime → Lft → GName → SProp 𝓤
-    Lent ℓ κ γ = sep 𝓤 (sem 𝓤 H A (MutSlice ℓ κ X.the-row .own (lent-at b γ fresh) (sliceVal (b, 0) places ∷ []))) (A .lent κ (Held X.the-row places b 0 γ))
+    abbrev pub LentTable : Lifetime → Lft → GName → SProp 𝓤
+    LentTable ℓ κ γ = sep 𝓤 (sem 𝓤 H A (MutSlice ℓ κ X.the-row .own (lent-at b γ fresh) (sliceVal (b, 0) places ∷ []))) (A .lent κ (Held X.the-row places b 0 γ))
 
-    pub lends-table : (ℓ : Lifetime) (κ : Lft) → ent 𝓤 (H .at fullShare τ b 0 fresh-val) (H .⇛ (ex 𝓤 (Lent ℓ κ)))
+    pub lends-table : (ℓ : Lifetime) (κ : Lft) → ent 𝓤 (H .at fullShare τ b 0 fresh-val) (H .⇛ (ex 𝓤 (LentTable ℓ κ)))
     unfolding partOf
     lends-table ℓ κ =
         qed W (‵ (fat fullShare τ b 0 fresh-val) ∷ []) ∵ updating ! $
         use1 W (‵ (cellAt fullShare (τ ∷ []) (fresh-val ∷ []) b 0)) (W .laws .at-raw fullShare τ b 0 fresh-val) $
-        owned ! Table (Is Table) (array-makes 𝓤 H A W X.the-row (LL.makes X.the-type X′.the-plain 𝓤 H A) places) fresh _ fresh-is $ move ! (1 ∷ 0 ∷ []) $ fjoin ! $
-        fpack ! (List Val) (λ vs. fsep (cellAt fullShare (τ ∷ []) vs b 0) (Table .own fresh vs)) (fresh-val ∷ []) $
+        owned ! OwnTable (Is OwnTable) (array-makes 𝓤 H A W X.the-row (LL.makes X.the-type X′.the-plain 𝓤 H A) places) fresh _ fresh-is $ move ! (1 ∷ 0 ∷ []) $ fjoin ! $
+        fpack ! (List Val) (λ vs. fsep (cellAt fullShare (τ ∷ []) vs b 0) (OwnTable .own fresh vs)) (fresh-val ∷ []) $
         -- the array is its elements side by side
         use1 W (‵ (arr-parts (shares X.the-row) places .part fullShare fresh b 0)) (array-apart 𝓤 H A W X.the-row fullShare tt places fresh b 0) $ fsplit ! $
         feqL ! (λ e.
@@ -123,7 +123,7 @@ module _ {M : Type 1} (𝓤 : URA M) (H : Heap 𝓤) (A : Atoms 𝓤) (W : Given
         ‵ (MutSlice ℓ κ X.the-row .own (lent-at b γ fresh) (sliceVal (b, 0) (length fresh) ∷ [])) ⊛ ‵ (flent κ (Held X.the-row (length fresh) b 0 γ)))))
         (lends-slice 𝓤 H A W X.the-row ℓ κ fresh b 0 (subst (Room X.the-row) (sym e) room)) $ await ! tt $ pick ! (λ γ. split ! $
         rewrite ! 0 (λ (m : ℕ). ‵ (MutSlice ℓ κ X.the-row .own (lent-at b γ fresh) (sliceVal (b, 0) m ∷ []))) e refl $
-        rewrite ! 1 (λ (m : ℕ). ‵ (flent κ (Held X.the-row m b 0 γ))) e refl $ at-once ! $ show ! (Lent ℓ κ) γ $ done !))
+        rewrite ! 1 (λ (m : ℕ). ‵ (flent κ (Held X.the-row m b 0 γ))) e refl $ at-once ! $ show ! (LentTable ℓ κ) γ $ done !))
 
     abbrev pub Taken : List Extent → List Val → SProp 𝓤
     Taken ys us = guard 𝓤 (IsTable ys (arrayVal us)) (H .at fullShare τ b 0 (arrayVal us))
@@ -136,9 +136,9 @@ module _ {M : Type 1} (𝓤 : URA M) (H : Heap 𝓤) (A : Atoms 𝓤) (W : Given
         use3 W (later (‵ (Arr (mem X.the-row) places .lies ys b 0))) (slice-back 𝓤 H A W X.the-row κ γ ys places b 0) $ await ! tt $ fsplit ! $ move ! (1 ∷ []) $
         use1 W (‵ (row X.the-row fullShare ys b 0)) (whole-out 𝓤 H A W X.the-row ys b 0) $ move ! (1 ∷ 0 ∷ []) $ fjoin ! $
         -- the elements are one array
-        use1 W (‵ (partAt Table fullShare ys b 0)) (array-whole 𝓤 H A W X.the-row fullShare places ys b 0) $ fpick ! (λ vs. fsplit ! $ move ! (1 ∷ []) $
-        peeks ! Table (Is Table) (shows 𝓤 H A Table) ys vs (λ is. drop ! $
+        use1 W (‵ (partAt OwnTable fullShare ys b 0)) (array-whole 𝓤 H A W X.the-row fullShare places ys b 0) $ fpick ! (λ vs. fsplit ! $ move ! (1 ∷ []) $
+        peeks ! OwnTable (Is OwnTable) (shows 𝓤 H A OwnTable) ys vs (λ is. drop ! $
         let v : Val = arrayVal (is .0) in
-        let is-v : Is Table ys (v ∷ []) = subst (Is Table ys) (is .1 .0 .0) is in
+        let is-v : Is OwnTable ys (v ∷ []) = subst (Is OwnTable ys) (is .1 .0 .0) is in
         rewrite ! 0 (λ (us : List Val). ‵ (cellAt fullShare (τ ∷ []) us b 0)) (is .1 .0 .0) refl $
         use1 W (‵ (fat fullShare τ b 0 v)) (W .laws .raw-at fullShare τ b 0 v) $ at-once ! $ show ! (Taken ys) (is .0) $ check ! (is-v, as-field ys v is-v) $ done !))

@@ -117,7 +117,7 @@ fn md_verdict(file: &[u8], order: Order) -> Verdict
 }
 
 // The layout that the words of a file give.
-fn layout(file: &[u8], order: Order) -> MdLayout
+fn layout_of_words(file: &[u8], order: Order) -> MdLayout
     requires { ⌜ 16384 ≤ length (now file) ⌝ }
     ensures { λ r. ⌜ r ≡ mdLayoutOf order (length (now (file .entry))) (wordAt order (now (file .entry))) ⌝ }
 {
@@ -148,7 +148,7 @@ pub fn open(file: &[u8], order: Order) -> MdOpening
     }
     match md_verdict(file, order) {
         Verdict::Fault(refusal) => MdOpening::Refused(refusal),
-        Verdict::Pass => MdOpening::Opened(layout(file, order)),
+        Verdict::Pass => MdOpening::Opened(layout_of_words(file, order)),
     }
 }
 

@@ -21,7 +21,7 @@ use Rattle.layout_rules.specs.declared.Layout.{Layout}
 use Rattle.layout_rules.specs.declared.Layout.the-variants.{Md}
 use Rattle.layout_rules.proofs.OneKind.{md-found, md-nine}
 use Rattle.md_part_rules.specs.Keys.{keyName, isNamed, keyIn, keyOf}
-use Rattle.md_part_rules.proofs.Names.{NoneBelow, First, searched, name-found, name-none, name-other}
+use Rattle.md_part_rules.proofs.Names.{NoneBelow, First, first-searched, name-found, name-none, name-other}
 
 -- a test that tells a statement exactly, where the statement does not hold
 told-false : {t : Bool} {P : Type 0} → Exactly t P → ¬ P → t ≡ false
@@ -74,7 +74,7 @@ module _ (f : List ℕ) (m : MdLayout) (name : List ℕ) where
       by-search four (inr others) = none four (λ j from to. other-name j (others j from (omega arith))) (name-none f m name four others)
 
       by-length : (b : Bool) → eqb (length name) 4 ≡ b → Search
-      by-length true e = let four = eqb-true (length name) 4 e in by-search four (searched (isNamed f name) (m .keys))
+      by-length true e = let four = eqb-true (length name) 4 e in by-search four (first-searched (isNamed f name) (m .keys))
       by-length false e = let long = eqb-false (length name) 4 e in other long (name-other f m name long)
 
   -- a key is found exactly where its position is the first that has the name

@@ -106,9 +106,9 @@ module _ (t : ℕ → Bool) where
   none-found n none = ap firstPosition (none-kept n none)
 
   -- of n positions one is the first that passes, or none passes
-  pub searched : (n : ℕ) → ((k : ℕ) × First n k) ⊎ NoneBelow (n + 1)
-  searched zero = inr (λ j from lt. let z : ⊥ = omega arith in absurd z)
-  searched (suc n) = ⊎-elim more (λ none. step (t (suc n)) refl none) (searched n)
+  pub first-searched : (n : ℕ) → ((k : ℕ) × First n k) ⊎ NoneBelow (n + 1)
+  first-searched zero = inr (λ j from lt. let z : ⊥ = omega arith in absurd z)
+  first-searched (suc n) = ⊎-elim more (λ none. step (t (suc n)) refl none) (first-searched n)
     where
       more : (k : ℕ) × First n k → ((k : ℕ) × First (suc n) k) ⊎ NoneBelow (suc n + 1)
       more x =

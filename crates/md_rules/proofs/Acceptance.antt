@@ -24,7 +24,7 @@ use Rattle.md_rules.specs.Accepts.{AcceptsMd}
 use Rattle.md_rules.specs.declared.MdLayout.{MdLayout}
 use Rattle.md_rules.specs.declared.MdOpening.{MdOpening}
 use Rattle.md_rules.specs.declared.MdOpening.the-variants.{Opened, Refused}
-use Rattle.md_rules.proofs.Verdicts.{Counted, hold-counted, counted-hold}
+use Rattle.md_rules.proofs.Verdicts.{MdCounted, hold-counted, counted-hold}
 
 -- ---- answers
 
@@ -79,7 +79,7 @@ module _ (len : ℕ) (w : ℕ → ℕ) where
   unfolding mdRules mdSumRules mdFixedRules mdEndRules
   hold-accepts h =
       let groups = four (mdCountRules w) (mdSumRules w) (mdFixedRules w) (mdEndRules len w) .0 (h .1) in
-      let counts : Counted w = hold-counted w (groups .0) in
+      let counts : MdCounted w = hold-counted w (groups .0) in
       let sums : Hold (mdSumRules w) = groups .1 .0 in
       let fixed : Hold (mdFixedRules w) = groups .1 .1 .0 in
       let end : Hold (mdEndRules len w) = groups .1 .1 .1 in
@@ -132,7 +132,7 @@ module _ (len : ℕ) (w : ℕ → ℕ) where
   accepts-hold : AcceptsMd len w → Hold (mdRules len w)
   unfolding mdRules
   accepts-hold a =
-      let counts : Counted w =
+      let counts : MdCounted w =
       record {
         rows = a .rows;
         columns = a .columns;
@@ -147,8 +147,8 @@ module _ (len : ℕ) (w : ℕ → ℕ) where
       )
 
   -- every rule holds exactly where the file is acceptable
-  pub rules-exactly : Hold (mdRules len w) ↔ AcceptsMd len w
-  rules-exactly = (hold-accepts, accepts-hold)
+  pub md-rules-exactly : Hold (mdRules len w) ↔ AcceptsMd len w
+  md-rules-exactly = (hold-accepts, accepts-hold)
 
 -- ---- opening
 
@@ -158,7 +158,7 @@ pub md-exactly : (o : Order) (f : List ℕ) (l : MdLayout)
 unfolding openMd openMdWords
 md-exactly o f l =
     let x = value-exactly (mdRules (length f) (wordAt o f)) (mdLayoutOf o (length f) (wordAt o f)) l in
-    let y : Hold (mdRules (length f) (wordAt o f)) ↔ AcceptsMd (length f) (wordAt o f) = rules-exactly (length f) (wordAt o f) in
+    let y : Hold (mdRules (length f) (wordAt o f)) ↔ AcceptsMd (length f) (wordAt o f) = md-rules-exactly (length f) (wordAt o f) in
     (λ e. (y .0 (x .0 e .0), x .0 e .1), λ a. x .1 (y .1 (a .0), a .1))
 
 -- and it is refused exactly where a rule fails, and then with the number and the place of the first that does

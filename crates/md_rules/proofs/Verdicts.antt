@@ -24,7 +24,7 @@ unfolding tabled mdRules mdCountRules mdSumRules mdFixedRules mdEndRules
 md-order len w = refl
 
 -- both bounds of every count
-pub record Counted (w : ℕ → ℕ) : Type 0 where
+pub record MdCounted (w : ℕ → ℕ) : Type 0 where
   pub rows : (1 ≤ w 3) × (w 3 ≤ 65535)
   pub columns : (1 ≤ w 4) × (w 4 ≤ 1600000)
   pub keys : (1 ≤ w 5) × (w 5 ≤ 400)
@@ -33,7 +33,7 @@ pub record Counted (w : ℕ → ℕ) : Type 0 where
   pub data-keys : (1 ≤ w 8) × (w 8 ≤ 400)
 
 -- what the rules of the counts say
-pub hold-counted : (w : ℕ → ℕ) → Hold (mdCountRules w) → Counted w
+pub hold-counted : (w : ℕ → ℕ) → Hold (mdCountRules w) → MdCounted w
 unfolding mdCountRules
 hold-counted w h =
     record {
@@ -46,7 +46,7 @@ hold-counted w h =
     }
 
 -- and where they hold
-pub counted-hold : (w : ℕ → ℕ) → Counted w → Hold (mdCountRules w)
+pub counted-hold : (w : ℕ → ℕ) → MdCounted w → Hold (mdCountRules w)
 unfolding mdCountRules
 counted-hold w k =
     also (within-exactly 1 65535 (w 3) .complete (k .rows))
@@ -58,10 +58,10 @@ counted-hold w k =
     tt)))))
 
 -- so it is where they pass
-pub pass-counted : (w : ℕ → ℕ) → firstFault (mdCountRules w) ≡ Pass → Counted w
+pub pass-counted : (w : ℕ → ℕ) → firstFault (mdCountRules w) ≡ Pass → MdCounted w
 pass-counted w e = hold-counted w (pass-hold (mdCountRules w) e)
 
-module _ {w : ℕ → ℕ} (k : Counted w) where
+module _ {w : ℕ → ℕ} (k : MdCounted w) where
   -- the words of all row headers
   pub row-words : w 3 * w 6 ≤ 26214000
   row-words = mul-le-mul (k .rows .1) (k .row-keys .1)

@@ -30,12 +30,12 @@ layout-vals = EL.vals Y.the-type Y′.the-laws
 
 module _ {n : ℕ} where
   -- a u32
-  abbrev pub number : Known n
-  number = uint w32
+  abbrev pub a-number : Known n
+  a-number = uint w32
 
   -- a layout, a channel and a block
-  abbrev pub layout : Known n
-  layout = one-of Y.the-type Y′.the-laws tt
+  abbrev pub a-layout : Known n
+  a-layout = one-of Y.the-type Y′.the-laws tt
 
   abbrev pub channel : Known n
   channel = one-of SlotOrBand.the-type Channel′.the-laws tt

@@ -39,12 +39,12 @@ use Rattle.reader.proofs.Reader.Laws as T′
 use Rattle.walks.proofs.Calls.{hands-on}
 use Rattle.walks.proofs.Contracts.{Contracted, entering, Ensures, with-ensures, Follows, follows}
 use Rattle.walks.proofs.Known.{Known, rows, spells, tells, passed-as, typed, ended}
-use Rattle.reader.proofs.Known.{bytes, layout, layout-vals, a-reader}
-use Rattle.reader.proofs.Calls.{D, L, B, value, Apart, Whole, through, said-apart}
+use Rattle.reader.proofs.Known.{bytes, a-layout, layout-vals, a-reader}
+use Rattle.reader.proofs.Calls.{D, L, Base, reader-value, TakenApart, Whole, through, said-apart}
 
 -- a file and a layout
 abbrev pub two : List (Known 1)
-two = bytes ∷ layout ∷ []
+two = bytes ∷ a-layout ∷ []
 
 abbrev pub Made : Ended
 Made = ended two (a-reader .slot)
@@ -56,7 +56,7 @@ module _ {M : Type 1} (𝓤 : URA M) (H : Heap 𝓤) (A : Atoms 𝓤) where
   -- the code of `run`, passed a file and a layout, gives the reader of the two
   abbrev pub Shuts : Fun 𝓤 → Type 2
   Shuts run = (κs : Lfts 1) (d : Reader) → Typed (mirs (rows κs (a-reader ∷ two))) (passed-as κs (a-reader ∷ two) (d, (d .file, (d .layout, tt)))) → (K : Val → SProp 𝓤)
-      → ent 𝓤 (K (value (κs .0) d)) (run (passed-as κs two (d .file, (d .layout, tt))) K)
+      → ent 𝓤 (K (reader-value (κs .0) d)) (run (passed-as κs two (d .file, (d .layout, tt))) K)
 
   module _ (W : Given 𝓤 H A) where
     pub shuts : (run : Fun 𝓤) → Shuts run → Triple 𝓤 run (Contracted 𝓤 H A Made made)
@@ -66,11 +66,11 @@ module _ {M : Type 1} (𝓤 : URA M) (H : Heap 𝓤) (A : Atoms 𝓤) where
         let a = x .3 in
         let κ = κs .0 in
         let d : Reader = record { file = a .0; layout = a .1 .0 } in
-        via 𝓤 (Contracted 𝓤 H A Made made .post ((κs, qs, tt, a, (slice-vals (a .0), (layout-vals (a .1 .0), tt))), g) (value κ d))
+        via 𝓤 (Contracted 𝓤 H A Made made .post ((κs, qs, tt, a, (slice-vals (a .0), (layout-vals (a .1 .0), tt))), g) (reader-value κ d))
         (qed W ((raw (toks 𝓤 A 1 κs qs) ⊛ ‵ (all-own (D κ .parts) (L κ) (d .file, (d .layout, tt)))) ∷ ‵ ftrue ∷ []) ∵
-        suffices ! _ (W .laws .⇛-intro _) $ show ! (λ (z : Reader). sep 𝓤 (sep 𝓤 (toks 𝓤 A 1 κs qs) (sem 𝓤 H A (B κ .own z (value κ d ∷ []))))
+        suffices ! _ (W .laws .⇛-intro _) $ show ! (λ (z : Reader). sep 𝓤 (sep 𝓤 (toks 𝓤 A 1 κs qs) (sem 𝓤 H A (Base κ .own z (reader-value κ d ∷ []))))
         (ensured 𝓤 H A Made made κs a g z)) d $
-        split ! $ move ! (1 ∷ []) $ use1 W (‵ (B κ .own d (value κ d ∷ []))) (own-shut 𝓤 H A W (D κ) (L κ) (d .file, (d .layout, tt))) $ move ! (1 ∷ 0 ∷ []) $ join ! $
+        split ! $ move ! (1 ∷ []) $ use1 W (‵ (Base κ .own d (reader-value κ d ∷ []))) (own-shut 𝓤 H A W (D κ) (L κ) (d .file, (d .layout, tt))) $ move ! (1 ∷ 0 ∷ []) $ join ! $
         frame ! $
         show ! (λ (ws : Lasts Made κs a). sep 𝓤 (sem 𝓤 H A (lasts Made κs a ws)) (fact 𝓤 (d ≡ d))) (tt, (tt, tt)) $
         says ! refl $ nothing ! $ fjoin ! $ nothing ! $ fjoin ! $ done !)
@@ -84,15 +84,15 @@ Local κ = T.the-row (record { mir = erased; lft = κ })
 module _ {M : Type 1} (𝓤 : URA M) (H : Heap 𝓤) (A : Atoms 𝓤) (ks : List (Known 1)) (r : Known 1) where
   -- the code of `run`, passed a file and a layout, has `maker` make a reader of the two, calls `callee` with that, and gives what that gives
   abbrev pub Passes : Fun 𝓤 → Fun 𝓤 → Fun 𝓤 → Type 2
-  Passes maker callee run = (κs : Lfts 1) (a : Denots (rows κs (bytes ∷ layout ∷ ks)))
-      → Typed (mirs (rows κs (bytes ∷ layout ∷ ks))) (passed-as κs (bytes ∷ layout ∷ ks) a) → (K K₁ K′ : Val → SProp 𝓤)
+  Passes maker callee run = (κs : Lfts 1) (a : Denots (rows κs (bytes ∷ a-layout ∷ ks)))
+      → Typed (mirs (rows κs (bytes ∷ a-layout ∷ ks))) (passed-as κs (bytes ∷ a-layout ∷ ks) a) → (K K₁ K′ : Val → SProp 𝓤)
       → ((w : Val) → ent 𝓤 (K w) (H .⇛ (guard 𝓤 (Typed (Local (κs .0) .mir) (w ∷ [])) (callee (w ∷ passed-as κs ks (a .1 .1)) K₁))))
       → ((u : Val) → ent 𝓤 (K₁ u) (H .⇛ (guard 𝓤 (Typed (r .slot .row κs .mir) (u ∷ [])) (K′ u))))
-      → ent 𝓤 (maker (passed-as κs two (a .0, (a .1 .0, tt))) K) (run (passed-as κs (bytes ∷ layout ∷ ks) a) K′)
+      → ent 𝓤 (maker (passed-as κs two (a .0, (a .1 .0, tt))) K) (run (passed-as κs (bytes ∷ a-layout ∷ ks) a) K′)
 
-  module _ (W : Given 𝓤 H A) (c : Clauses 𝓤 (Apart ks r)) (maker callee run : Fun 𝓤) (fm : FmF 𝓤 maker) (met-made : Triple 𝓤 maker (Contracted 𝓤 H A Made (made 𝓤 H A)))
+  module _ (W : Given 𝓤 H A) (c : Clauses 𝓤 (TakenApart ks r)) (maker callee run : Fun 𝓤) (fm : FmF 𝓤 maker) (met-made : Triple 𝓤 maker (Contracted 𝓤 H A Made (made 𝓤 H A)))
       (met : Triple 𝓤 callee (Contracted 𝓤 H A (Whole ks r) (through 𝓤 H A ks r c))) where
-    module _ (κs : Lfts 1) (qs : Shares 1) (a : Denots (rows κs (bytes ∷ layout ∷ ks))) (g : c κs a .ghost) where
+    module _ (κs : Lfts 1) (qs : Shares 1) (a : Denots (rows κs (bytes ∷ a-layout ∷ ks))) (g : c κs a .ghost) where
       abbrev κ : Lft
       κ = κs .0
 
@@ -119,38 +119,38 @@ module _ {M : Type 1} (𝓤 : URA M) (H : Heap 𝓤) (A : Atoms 𝓤) (ks : List
       After-maker w = sep 𝓤 (Contracted 𝓤 H A Made (made 𝓤 H A) .post to-maker w) Rest
 
       abbrev After-callee : Val → SProp 𝓤
-      After-callee = Contracted 𝓤 H A (Whole ks r) (through 𝓤 H A ks r c) .post (to (value κ d))
+      After-callee = Contracted 𝓤 H A (Whole ks r) (through 𝓤 H A ks r c) .post (to (reader-value κ d))
 
       -- the reader that the maker gives is passed on
       passes-on : (w : Val) → ent 𝓤 (After-maker w) (H .⇛ (guard 𝓤 (Typed (Local κ .mir) (w ∷ [])) (callee (w ∷ passed-as κs ks (a .1 .1)) After-callee)))
       passes-on w =
-          qed W (later (some (λ (x : Reader). (raw (toks 𝓤 A 1 κs qs) ⊛ ‵ (B κ .own x (w ∷ []))) ⊛ raw
+          qed W (later (some (λ (x : Reader). (raw (toks 𝓤 A 1 κs qs) ⊛ ‵ (Base κ .own x (w ∷ []))) ⊛ raw
           (ensured 𝓤 H A Made (made 𝓤 H A) κs (a .0, (a .1 .0, tt)) tt x))) ∷
           (‵ (owns (rows κs ks) (a .1 .1) (valss (rows κs ks) (spells κs ks) (a .1 .1))) ⊛ raw (c κs a .requires g)) ∷ []) ∵ updating ! $ await ! tt $ pick ! (λ x.
           split ! $ move ! (1 ∷ []) $
           use1 W (raw (fact 𝓤 (x ≡ d))) (made-says x) $ heard ! (x ≡ d) (λ eq. split ! $ move ! (1 ∷ []) $
-          peeks ! (B κ) (Is (B κ)) (shows 𝓤 H A (B κ)) x (w ∷ []) (λ is. at-once ! $
+          peeks ! (Base κ) (Is (Base κ)) (shows 𝓤 H A (Base κ)) x (w ∷ []) (λ is. at-once ! $
           check ! (LL.lawful (T.the-type (record { mir = erased; lft = κ })) (T′.the-laws (record { mir = erased; lft = κ })) 𝓤 H A W .typed x (w ∷ []) is) $
-          rewrite ! 0 (λ (z : Reader). ‵ (B κ .own z (w ∷ []))) eq refl $ suffices ! _ (met (to w)) $
+          rewrite ! 0 (λ (z : Reader). ‵ (Base κ .own z (w ∷ []))) eq refl $ suffices ! _ (met (to w)) $
           -- [what the reader owns; the token; what the rest owns, and what is required]
           move ! (2 ∷ []) $ split ! $ move ! (2 ∷ 0 ∷ []) $ fjoin ! $ move ! (2 ∷ 0 ∷ []) $ join ! $ frame ! $ done !)))
 
-    pub passes : Passes maker callee run → Triple 𝓤 run (Contracted 𝓤 H A (Apart ks r) c)
-    passes walk = entering 𝓤 H A (Apart ks r) c (λ κs. spells κs (bytes ∷ layout ∷ ks)) (λ κs. tells κs (bytes ∷ layout ∷ ks)) run (λ x g are.
+    pub passes : Passes maker callee run → Triple 𝓤 run (Contracted 𝓤 H A (TakenApart ks r) c)
+    passes walk = entering 𝓤 H A (TakenApart ks r) c (λ κs. spells κs (bytes ∷ a-layout ∷ ks)) (λ κs. tells κs (bytes ∷ a-layout ∷ ks)) run (λ x g are.
         let κs = x .0 in
         let qs = x .1 in
         let a = x .3 in
         via 𝓤 (maker (Contracted 𝓤 H A Made (made 𝓤 H A) .args (to-maker κs qs a g)) (λ w.
         sep 𝓤 (Contracted 𝓤 H A Made (made 𝓤 H A) .post (to-maker κs qs a g) w) (Rest κs qs a g)))
         (via 𝓤 (sep 𝓤 (Contracted 𝓤 H A Made (made 𝓤 H A) .pre (to-maker κs qs a g)) (Rest κs qs a g))
-        (qed W ((raw (toks 𝓤 A 1 κs qs) ⊛ ‵ (owns (rows κs (bytes ∷ layout ∷ ks)) a (valss (rows κs (bytes ∷ layout ∷ ks)) (spells κs (bytes ∷ layout ∷ ks)) a))) ∷ raw
+        (qed W ((raw (toks 𝓤 A 1 κs qs) ⊛ ‵ (owns (rows κs (bytes ∷ a-layout ∷ ks)) a (valss (rows κs (bytes ∷ a-layout ∷ ks)) (spells κs (bytes ∷ a-layout ∷ ks)) a))) ∷ raw
         (c κs a .requires g) ∷ []) ∵
         split ! $ move ! (1 ∷ []) $ fsplit ! $ move ! (1 ∷ []) $ fsplit ! $ nothing ! $ move ! (1 ∷ 0 ∷ []) $ fjoin ! $ move ! (2 ∷ 0 ∷ []) $ fjoin ! $
         move ! (2 ∷ 0 ∷ []) $ join ! $ nothing ! $ move ! (1 ∷ 0 ∷ []) $ join ! $ frame ! $ done !)
         (via 𝓤 (sep 𝓤 (maker (Contracted 𝓤 H A Made (made 𝓤 H A) .args (to-maker κs qs a g)) (Contracted 𝓤 H A Made (made 𝓤 H A) .post (to-maker κs qs a g)))
         (Rest κs qs a g)) (monoL 𝓤 (Rest κs qs a g) (met-made (to-maker κs qs a g)))
         (fm _ _ _ (Rest κs qs a g) (λ w. id⊢ 𝓤 _))))
-        (walk κs a (typed κs 𝓤 H A W (bytes ∷ layout ∷ ks) a are) (After-maker κs qs a g) (After-callee κs qs a g) _ (passes-on κs qs a g)
+        (walk κs a (typed κs 𝓤 H A W (bytes ∷ a-layout ∷ ks) a are) (After-maker κs qs a g) (After-callee κs qs a g) _ (passes-on κs qs a g)
         (hands-on 𝓤 H A W 1 κs qs (r .slot .row κs) (r .lawful 𝓤 H A W κs) _ _ (said-apart 𝓤 H A ks r W c κs (d κs qs a g, a .1 .1) g))))
 
 -- ---- of the machine's own tables
@@ -169,15 +169,15 @@ module _ {M : Type 1} (𝓤 : URA M) (H : Heap 𝓤) (𝓜 : Model 𝓤 H) (𝓖
       follows 𝓤 H (𝓖 .A) Made (made 𝓤 H (𝓖 .A)) (givenOf 𝓤 H 𝓜 𝓖) E implies (C k) (fmOf 𝓤 H (ofModel 𝓤 H 𝓜) (tablesOf 𝓤 H 𝓜 (tables 𝓤 H 𝓜 𝓡 γ)) k)
       (entered 𝓤 H (Contracted 𝓤 H (𝓖 .A) Made (made 𝓤 H (𝓖 .A))) C Λ k e closed (shuts 𝓤 H (𝓖 .A) (givenOf 𝓤 H 𝓜 𝓖) (WpFn 𝓤 H C Λ e) (walk C Λ)))
 
-  pub passed : (ks : List (Known 1)) (r : Known 1) (c : Clauses 𝓤 (Apart ks r)) (E : Ensures 𝓤 H (𝓖 .A) (Apart ks r) c) → Follows 𝓤 H (𝓖 .A) (Apart ks r) c E
+  pub passed : (ks : List (Known 1)) (r : Known 1) (c : Clauses 𝓤 (TakenApart ks r)) (E : Ensures 𝓤 H (𝓖 .A) (TakenApart ks r) c) → Follows 𝓤 H (𝓖 .A) (TakenApart ks r) c E
       → (j : Name) (s : Routine) → γ j ≡ s → Triple 𝓤 (𝓡 .run s) (Contracted 𝓤 H (𝓖 .A) Made (made 𝓤 H (𝓖 .A)))
       → (f : Name) (t : Routine) → γ f ≡ t → Triple 𝓤 (𝓡 .run t) (Contracted 𝓤 H (𝓖 .A) (Whole ks r) (through 𝓤 H (𝓖 .A) ks r c))
       → (k : Name) (e : Fn) → Closed 𝓤 H C Λ k e → ((C : Calls 𝓤 H) (Λ : Loops 𝓤 H) → FmC 𝓤 H (ofModel 𝓤 H 𝓜) C → Passes 𝓤 H (𝓖 .A) ks r (C j) (C f) (WpFn 𝓤 H C Λ e))
-      → Triple 𝓤 (C k) (Contracted 𝓤 H (𝓖 .A) (Apart ks r) (with-ensures 𝓤 H (𝓖 .A) (Apart ks r) c E))
+      → Triple 𝓤 (C k) (Contracted 𝓤 H (𝓖 .A) (TakenApart ks r) (with-ensures 𝓤 H (𝓖 .A) (TakenApart ks r) c E))
   unfolding tablesOf
   passed ks r c E implies j s is-maker met-made f t is met k e closed walk =
       let fm = fmOf 𝓤 H (ofModel 𝓤 H 𝓜) (tablesOf 𝓤 H 𝓜 (tables 𝓤 H 𝓜 𝓡 γ)) in
-      follows 𝓤 H (𝓖 .A) (Apart ks r) c (givenOf 𝓤 H 𝓜 𝓖) E implies (C k) (fm k) (entered 𝓤 H (Contracted 𝓤 H (𝓖 .A) (Apart ks r) c) C Λ k e closed
+      follows 𝓤 H (𝓖 .A) (TakenApart ks r) c (givenOf 𝓤 H 𝓜 𝓖) E implies (C k) (fm k) (entered 𝓤 H (Contracted 𝓤 H (𝓖 .A) (TakenApart ks r) c) C Λ k e closed
       (passes 𝓤 H (𝓖 .A) ks r (givenOf 𝓤 H 𝓜 𝓖) c (C j) (C f) (WpFn 𝓤 H C Λ e) (fm j)
       (cited 𝓤 H (Contracted 𝓤 H (𝓖 .A) Made (made 𝓤 H (𝓖 .A))) 𝓜 𝓡 γ j s is-maker met-made)
       (cited 𝓤 H (Contracted 𝓤 H (𝓖 .A) (Whole ks r) (through 𝓤 H (𝓖 .A) ks r c)) 𝓜 𝓡 γ f t is met) (walk C Λ fm)))

@@ -12,10 +12,10 @@ use refusal_rules::WordAnswer;
 ghost use mathlib.Core.Path.{_≡_};
 ghost use Rattle.refusal_rules.specs.Answers.{numberSays, wordSays, sizeSays};
 ghost use Rattle.span_rules.specs.Spans.{handed};
-ghost use Rattle.value_rules.specs.Reading.{readSample, readPoint, readField};
 ghost use Rattle.area_part_rules.specs.Blocks.{blockSpan};
 ghost use Rattle.area_part_rules.specs.Lines.{copyLine};
 ghost use Rattle.grid_part_rules.specs.Grids.{copyByRows};
+ghost use Rattle.value_rules.specs.Reading.{readSample, readPoint, readField};
 
 // The bytes of a file, with a layout. Document 01: "Display code carries file bytes and layout together as one thing and reads through it, with the same
 // answers." A caller can make the layout up: nothing is known of its fields until a call finds it to be the one that opening the file gives.

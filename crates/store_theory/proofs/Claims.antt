@@ -19,16 +19,16 @@ use Rattle.store_theory.specs.Series.{leaves, replies}
 use Rattle.store_theory.specs.Stores.{OrderOf, All, System, Laws, alone, stores, fileAfter, answers, storesAt, Distinct}
 use Rattle.store_theory.specs.Claims.{Demand3, Demand3Runs, LastStands, Request13}
 use Rattle.store_theory.proofs.Orders.{order-mem, order-keep, order-single, only-member}
-use Rattle.store_theory.proofs.Plans.{Inside, length-after, address, succeeds-exactly}
+use Rattle.store_theory.proofs.Plans.{PlanInside, length-after, address, succeeds-exactly}
 use Rattle.store_theory.proofs.Series.{run-is, leaves-append}
 use Rattle.store_theory.proofs.Runs.{carried, length-carried, carried-other, here, carried-here, mem-here, here-mem, none-here, find}
 
 module _ {Store Answer Opened Value : Type 0} (S : System Store Answer Opened Value) (L : Laws S) where
   -- the laws, of plans that may be refusals
-  inside-of : (f : List ℕ) (s : Store) → S .Fit s → Inside (length f) (S .plan f s)
+  inside-of : (f : List ℕ) (s : Store) → S .Fit s → PlanInside (length f) (S .plan f s)
   inside-of f s ok = step (S .plan f s) refl
     where
-      step : (p : Plan Answer) → S .plan f s ≡ p → Inside (length f) p
+      step : (p : Plan Answer) → S .plan f s ≡ p → PlanInside (length f) p
       step (write r a b) e = L .inside (record { fit = ok; told = r; planned = e })
       step (refuse r) e = tt
 

@@ -18,9 +18,9 @@ module _ {Answer : Type 0} where
   refuse-write e = let z : _≡_ {A = ℕ} 0 1 = cc in let y : ⊥ = omega arith in absurd y
 
   -- the place of a plan is inside a file of n bytes
-  abbrev pub Inside : ℕ → Plan Answer → Type 0
-  Inside n (write r a b) = a + length b ≤ n
-  Inside n (refuse r) = Unit {0}
+  abbrev pub PlanInside : ℕ → Plan Answer → Type 0
+  PlanInside n (write r a b) = a + length b ≤ n
+  PlanInside n (refuse r) = Unit {0}
 
   -- a store leaves the length
   pub length-after : (f : List ℕ) (p : Plan Answer) → length (after f p) ≡ length f
@@ -37,7 +37,7 @@ module _ {Answer : Type 0} where
       step (outside g) = sets-outside b f a i 0 g
 
   -- what a store leaves at a byte depends on that byte alone
-  pub after-agree : (n : ℕ) (f g : List ℕ) (p : Plan Answer) (i : ℕ) → length f ≡ n → length g ≡ n → Inside n p → getD f i 0 ≡ getD g i 0
+  pub after-agree : (n : ℕ) (f g : List ℕ) (p : Plan Answer) (i : ℕ) → length f ≡ n → length g ≡ n → PlanInside n p → getD f i 0 ≡ getD g i 0
       → getD (after f p) i 0 ≡ getD (after g p) i 0
   after-agree n f g (refuse r) i lf lg h e = e
   after-agree n f g (write r a b) i lf lg h e = step (where-is i a (length b))

@@ -13,7 +13,7 @@ use Rattle.store_theory.specs.Plans.{Plan, after, outcome, SucceedsAt, s
 use Rattle.store_theory.specs.Series.{leaves}
 use Rattle.store_theory.specs.Stores.{All}
 use Rattle.store_theory.proofs.Series.{leaves-length}
-use Rattle.store_theory.proofs.Plans.{Inside, length-after, after-other, after-agree, covers, succeeds-exactly, not-at}
+use Rattle.store_theory.proofs.Plans.{PlanInside, length-after, after-other, after-agree, covers, succeeds-exactly, not-at}
 
 module _ {X Answer : Type 0} (P : X → Plan Answer) where
   -- the file after them
@@ -38,7 +38,7 @@ module _ {X Answer : Type 0} (P : X → Plan Answer) where
 
   -- at a byte that only stores at address a cover, these alone count
   pub carried-here : (n i a : ℕ) (g k : List ℕ) (l : List X) → All (λ s. Covers i (P s) → SucceedsAt a (P s)) l
-      → All (λ s. Inside n (P s)) l
+      → All (λ s. PlanInside n (P s)) l
       → length g ≡ n → length k ≡ n → getD g i 0 ≡ getD k i 0 → getD (carried g l) i 0 ≡ getD (carried k (here a l)) i 0
   unfolding leaves outcome keep
   carried-here n i a g k [] h fit lg lk e = e
@@ -50,7 +50,7 @@ module _ {X Answer : Type 0} (P : X → Plan Answer) where
       h′ : All (λ t. Covers i (P t) → SucceedsAt a (P t)) l
       h′ t m = h t (List·Memᴰ·tail m)
 
-      fit′ : All (λ t. Inside n (P t)) l
+      fit′ : All (λ t. PlanInside n (P t)) l
       fit′ t m = fit t (List·Memᴰ·tail m)
 
       q : length (after g (P s)) ≡ n

@@ -73,12 +73,12 @@ module _ {M : Type 1} {𝓤 : URA M} {H : Heap 𝓤} {A : Atoms 𝓤} {K : Type 
   asks t {C} fm {f} c met x k = use1 W (raw (C f (c .args x) (c .post x))) (met x) $ onward t fm k
 
   -- what the callee leaves is taken apart
-  pub answers : K → (T : Ended) (c : Clauses 𝓤 T) (y : Contracted 𝓤 H A T c .Ghost) (w : Val) {P : SProp 𝓤}
+  pub call-answers : K → (T : Ended) (c : Clauses 𝓤 T) (y : Contracted 𝓤 H A T c .Ghost) (w : Val) {P : SProp 𝓤}
       → ((r : Res (T .signature) (y .0 .0)) → Is (typeAt (T .signature .result) (y .0 .0)) r (w ∷ []) → (ws : Lasts T (y .0 .0) (y .0 .3))
       → Seq K W (raw (c (y .0 .0) (y .0 .3) .ensures (y .1) r (atExit T (y .0 .0) (y .0 .3) ws)) ∷ raw (toks 𝓤 A (T .signature .lifetimes) (y .0 .0) (y .0 .1)) ∷ ‵
       (lasts T (y .0 .0) (y .0 .3) ws) ∷ Γ) (upd P))
       → Seq K W (raw (Contracted 𝓤 H A T c .post y w) ∷ Γ) (upd P)
-  answers t T c y w k =
+  call-answers t T c y w k =
       let R : RattleType = typeAt (T .signature .result) (y .0 .0) in
       use1 W (later (some (λ (r : Res (T .signature) (y .0 .0)). (raw (toks 𝓤 A (T .signature .lifetimes) (y .0 .0) (y .0 .1)) ⊛ ‵ (R .own r (w ∷ []))) ⊛ raw
       (ensured 𝓤 H A T c (y .0 .0) (y .0 .3) (y .1) r)))) (id⊢ 𝓤 _) $ await t tt $ pick t (λ r.
@@ -122,7 +122,7 @@ module _ {M : Type 1} (𝓤 : URA M) (H : Heap 𝓤) (A : Atoms 𝓤) (W : Given
       show ! (λ (z : R .Denot). sep 𝓤 (sep 𝓤 (toks 𝓤 A n κs qs) (sem 𝓤 H A (R .own z (u ∷ [])))) (F z)) x $ move ! (1 ∷ 0 ∷ []) $ join ! $ frame ! $ by ! (h x)))
 
 -- u is the machine value of s, of its type and related to it
-pub record Told (R : RattleType) (vals : R .Denot → List Val) (s : R .Denot) (u : Val) : Type 0 where
+pub record ValueIs (R : RattleType) (vals : R .Denot → List Val) (s : R .Denot) (u : Val) : Type 0 where
   pub typed : Typed (R .mir) (u ∷ [])
   pub is-value : u ∷ [] ≡ vals s
   pub is : Is R s (vals s)
@@ -141,13 +141,13 @@ module _ {M : Type 1} (𝓤 : URA M) (H : Heap 𝓤) (A : Atoms 𝓤) (W : Given
   Owned = ‵ (owns (typesAt (T .signature .params) (y .0 .0)) (y .0 .3) (y .0 .4))
 
   -- F is what else there is
-  pub answered : (vals : R .Denot → List Val) → Tells R (Is R) vals → Lawful 𝓤 H A R → (z : R .Denot) → s ≡ z → (F : SProp 𝓤) (f : Name)
+  pub call-answered : (vals : R .Denot → List Val) → Tells R (Is R) vals → Lawful 𝓤 H A R → (z : R .Denot) → s ≡ z → (F : SProp 𝓤) (f : Name)
       → Triple 𝓤 (C f) (Contracted 𝓤 H A T c) → ent 𝓤 (emp 𝓤) (c (y .0 .0) (y .0 .3) .requires (y .1))
       → ent 𝓤 (sep 𝓤 Tokens (sep 𝓤 (sem 𝓤 H A (owns (typesAt (T .signature .params) (y .0 .0)) (y .0 .3) (y .0 .4))) F))
-      (C f (Contracted 𝓤 H A T c .args y) (λ u. H .⇛ (guard 𝓤 (Told R vals z u) (sep 𝓤 Tokens F))))
-  answered vals tells lawful z e F f known asked =
+      (C f (Contracted 𝓤 H A T c .args y) (λ u. H .⇛ (guard 𝓤 (ValueIs R vals z u) (sep 𝓤 Tokens F))))
+  call-answered vals tells lawful z e F f known asked =
       qed W (raw Tokens ∷ Owned ∷ raw F ∷ []) ∵ join ! $ use0 W (raw (c (y .0 .0) (y .0 .3) .requires (y .1))) asked $ move ! (1 ∷ 0 ∷ []) $
-      use2 W (raw (Contracted 𝓤 H A T c .pre y)) (id⊢ 𝓤 _) $ asks ! fm (Contracted 𝓤 H A T c) known y (λ u. updating ! $ answers ! T c y u (λ r is ws.
+      use2 W (raw (Contracted 𝓤 H A T c .pre y)) (id⊢ 𝓤 _) $ asks ! fm (Contracted 𝓤 H A T c) known y (λ u. updating ! $ call-answers ! T c y u (λ r is ws.
       use1 W (raw (fact 𝓤 (r ≡ s))) (says r (atExit T (y .0 .0) (y .0 .3) ws)) $ heard ! (r ≡ s) (λ eq. move ! (1 ∷ []) $ drop ! $ at-once ! $ check ! (record {
         typed = lawful .typed r (u ∷ []) is;
         is-value = tells r (u ∷ []) is ∙ ap vals (eq ∙ e);

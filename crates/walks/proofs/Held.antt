@@ -37,8 +37,8 @@ module _ (R : RattleType) (ℓ : Lifetime) (κ : Lft) (q : Share) (x : RefT (Lis
   under δ ys = record { ptr = x .ptr; name = δ; now = ys }
 
   -- what the function has of it, at the list ys
-  abbrev pub Holds : List (R .Denot) → Fml
-  Holds ys = fsep (MutSlice ℓ κ R .own (at-last x ys) (v ∷ [])) (flft κ q)
+  abbrev pub HasSlice : List (R .Denot) → Fml
+  HasSlice ys = fsep (MutSlice ℓ κ R .own (at-last x ys) (v ∷ [])) (flft κ q)
 
   -- what is kept while it is lent as `&mut`
   abbrev pub Lent : ℕ → GName → List (R .Denot) → Fml
@@ -56,14 +56,14 @@ module _ (R : RattleType) (ℓ : Lifetime) (κ : Lft) (q : Share) (x : RefT (Lis
   module _ {M : Type 1} {𝓤 : URA M} {H : Heap 𝓤} {A : Atoms 𝓤} {K : Type 0} {W : Given 𝓤 H A} {Γ : List (Item 𝓤)} {G : Goal 𝓤 H} where
     -- it is taken apart, and its length is learned
     pub counts : K → (ys : List (R .Denot)) → Is (MutSlice ℓ κ R) x (v ∷ [])
-        → (length ys ≡ length (x .now) → Seq K W (‵ (MutSlice ℓ κ R .own (at-last x ys) (v ∷ [])) ∷ ‵ (flft κ q) ∷ Γ) G) → Seq K W (‵ (Holds ys) ∷ Γ) G
+        → (length ys ≡ length (x .now) → Seq K W (‵ (MutSlice ℓ κ R .own (at-last x ys) (v ∷ [])) ∷ ‵ (flft κ q) ∷ Γ) G) → Seq K W (‵ (HasSlice ys) ∷ Γ) G
     counts t ys at-entry k = fsplit t $ peeks t (MutSlice ℓ κ R) (Is (MutSlice ℓ κ R)) (shows 𝓤 H A (MutSlice ℓ κ R)) (at-last x ys) (v ∷ [])
         (λ is. k (ap (λ (z : (ℕ × ℕ) × ℕ). z .1) (mut-slice-fixes ℓ κ R (at-last x ys) x (v ∷ []) is at-entry)))
 
     -- it is lent as `&mut`
     pub lends : K → Soaks G → (ℓ′ : Lifetime) (ys : List (R .Denot))
         → ((ν : ℕ) (δ : GName) → Seq K W (‵ (MutSlice ℓ′ (ν ∷ []) R .own (under δ ys) (v ∷ [])) ∷ ‵ (flft (ν ∷ []) fullShare) ∷ ‵ (Lent ν δ ys) ∷ Γ) G)
-        → Seq K W (‵ (Holds ys) ∷ Γ) G
+        → Seq K W (‵ (HasSlice ys) ∷ Γ) G
     lends t z ℓ′ ys k = fsplit t $ peeks t (MutSlice ℓ κ R) (Is (MutSlice ℓ κ R)) (shows 𝓤 H A (MutSlice ℓ κ R)) (at-last x ys) (v ∷ []) (λ is.
         rewrite t 0 (λ (us : List Val). ‵ (MutSlice ℓ κ R .own (at-last x ys) us)) (is .0 .0) refl $ lft-new t z (λ ν. move t (1 ∷ 2 ∷ []) $
         use2 W (later (some (λ (δ : GName). ‵ (MutSlice ℓ′ (ν ∷ []) R .own (under δ ys) (_ ∷ [])) ⊛ ‵
@@ -75,17 +75,17 @@ module _ (R : RattleType) (ℓ : Lifetime) (κ : Lft) (q : Share) (x : RefT (Lis
 
     -- it comes back, at zs
     pub comes-home : K → Soaks G → {ν : ℕ} {δ : GName} (ys zs : List (R .Denot)) → length zs ≡ length ys
-        → Step K W (‵ (Holds zs) ∷ Γ) G (‵ (flft (ν ∷ []) fullShare) ∷ ‵ (Lent ν δ ys) ∷ ‵ (finally R δ zs) ∷ Γ) G
+        → Step K W (‵ (HasSlice zs) ∷ Γ) G (‵ (flft (ν ∷ []) fullShare) ∷ ‵ (Lent ν δ ys) ∷ ‵ (finally R δ zs) ∷ Γ) G
     comes-home t z {ν} {δ} ys zs e = step (λ s. move t (1 ∷ []) $ fsplit t $ pureL t (at-slice R (at-last x ys) (v ∷ [])) (λ p. move t (1 ∷ []) $ lft-end t z $
         use3 W (later (‵ (MutSlice ℓ κ R .own (at-last x zs) (_ ∷ [])) ⊛ ‵ (flft κ q)))
         (comes-back R κ (ν ∷ []) q (x .name) (x .ptr .0) (x .ptr .1) 𝓤 H A W ℓ ℓ ys δ zs (p .1) e) $ await t z $ split t $
         rewrite t 0 (λ (us : List Val). ‵ (MutSlice ℓ κ R .own (at-last x zs) us)) (sym (p .0)) refl $ fjoin t $ s))
 
     -- it is lent as `&`
-    pub shares : K → Soaks G → (ℓ′ : Lifetime) (ys : List (R .Denot))
+    pub lends-shared : K → Soaks G → (ℓ′ : Lifetime) (ys : List (R .Denot))
         → ((μ : ℕ) (δ : GName) → Seq K W (‵ (ShrSlice ℓ′ (μ ∷ []) R .own (under δ ys) (v ∷ [])) ∷ ‵ (flft (μ ∷ []) fullShare) ∷ ‵ (Shared μ ys) ∷ Γ) G)
-        → Seq K W (‵ (Holds ys) ∷ Γ) G
-    shares t z ℓ′ ys k = fsplit t $ fsplit t $ pureL t (at-slice R (at-last x ys) (v ∷ [])) (λ p. fsplit t $
+        → Seq K W (‵ (HasSlice ys) ∷ Γ) G
+    lends-shared t z ℓ′ ys k = fsplit t $ fsplit t $ pureL t (at-slice R (at-last x ys) (v ∷ [])) (λ p. fsplit t $
         opens-slice t z R ys (x .ptr .0) (x .ptr .1) $ feqI t ℕ (length ys) (length ys) refl $ fjoin t $ lft-new t z (λ μ. move t (1 ∷ []) $
         use1 W (later (some (λ (δ : GName). ‵ (ShrSlice ℓ′ (μ ∷ []) R .own (under δ ys) (_ ∷ [])) ⊛ ‵ (flent (μ ∷ []) (Part ys)))))
         (lends-shr-slice 𝓤 H A W R ℓ′ (μ ∷ []) fullShare ys (x .ptr .0) (x .ptr .1) (p .1)) $ await t z $ pick t (λ δ. split t $
@@ -96,7 +96,7 @@ module _ (R : RattleType) (ℓ : Lifetime) (κ : Lft) (q : Share) (x : RefT (Lis
         move t (1 ∷ 2 ∷ 0 ∷ []) $ k μ δ)))
 
     -- it comes back, as it was
-    pub returns-home : K → Soaks G → {μ : ℕ} (ys : List (R .Denot)) → Step K W (‵ (Holds ys) ∷ Γ) G (‵ (flft (μ ∷ []) fullShare) ∷ ‵ (Shared μ ys) ∷ Γ) G
+    pub returns-home : K → Soaks G → {μ : ℕ} (ys : List (R .Denot)) → Step K W (‵ (HasSlice ys) ∷ Γ) G (‵ (flft (μ ∷ []) fullShare) ∷ ‵ (Shared μ ys) ∷ Γ) G
     returns-home t z {μ} ys = step (λ s. move t (1 ∷ []) $ fsplit t $ pureL t (at-slice R (at-last x ys) (v ∷ [])) (λ p. fsplit t $
         -- [the lender's part; what else is kept; μ's token; …]
         move t (2 ∷ []) $ lft-end t z $ lent-back t z $ fsplit t $ drop t $ move t (1 ∷ []) $ fsplit t $ move t (1 ∷ []) $ fsplit t $ move t (3 ∷ 2 ∷ 0 ∷ 1 ∷ []) $

@@ -29,10 +29,10 @@ use denote.Steps.{heard, nothing}
 use denote.Triple.Clauses.{Clauses, Ended, AtExit}
 use denote.Triple.Entry.{Args}
 use denote.Triple.Statement.{Triple}
-use Rattle.walks.proofs.Calls.{Yields, asks, answers}
+use Rattle.walks.proofs.Calls.{Yields, asks, call-answers}
 use Rattle.walks.proofs.Contracts.{Contracted}
 use Rattle.walks.proofs.Known.{Known, lent, shared, rows, spells, passed-as, Related, ended, Value, types-of, owned-values}
-use Rattle.walks.proofs.Held.{under, Holds, lends, comes-home, shares, returns-home}
+use Rattle.walks.proofs.Held.{under, HasSlice, lends, comes-home, lends-shared, returns-home}
 
 -- a call with a `&mut [E]`
 abbrev pub TakesMut : (E : RattleType) (m : ℕ) → List (Known (suc m)) → RattleType → Ended
@@ -50,7 +50,7 @@ module _ (E : RattleType) (ℓ : Lifetime) (κ : Lft) (q : Share) (x : RefT (Lis
     (W : Given 𝓤 H A) (C : Calls 𝓤 H)
     (fm : FmC 𝓤 H (W .laws) C) (ys : List (E .Denot)) where
   abbrev Whole : List (E .Denot) → Fml
-  Whole = Holds E ℓ κ q x v
+  Whole = HasSlice E ℓ κ q x v
 
   module _ (m : ℕ) (κs : Lfts m) (qs : Shares m) (ks : List (Known (suc m))) (R : RattleType) (c : Clauses 𝓤 (TakesMut E m ks R))
       (rest : (ν : ℕ) → Denots (rows (ν ∷ [], κs) ks)) where
@@ -83,7 +83,7 @@ module _ (E : RattleType) (ℓ : Lifetime) (κ : Lft) (q : Share) (x : RefT (Lis
         use0 W (raw (c (ν ∷ [], κs) (args ν δ) .requires (g ν δ))) (asked ν δ) $ move ! (1 ∷ 0 ∷ []) $
         use2 W (raw (Contracted 𝓤 H A (TakesMut E m ks R) c .pre to)) (id⊢ 𝓤 _) $
         asks ! fm (Contracted 𝓤 H A (TakesMut E m ks R) c) known to
-        (λ w. updating ! $ answers ! (TakesMut E m ks R) c to w (λ r is ws. use1 W (raw (fact 𝓤 (Q r (ws .0)))) (said ν δ r _) $ heard ! (Q r (ws .0)) (λ holds.
+        (λ w. updating ! $ call-answers ! (TakesMut E m ks R) c to w (λ r is ws. use1 W (raw (fact 𝓤 (Q r (ws .0)))) (said ν δ r _) $ heard ! (Q r (ws .0)) (λ holds.
         -- [the tokens; the last lists; what is kept of the slice]
         use1 W (‵ (flft (ν ∷ []) fullShare) ⊛ raw (toks 𝓤 A m κs qs)) (id⊢ 𝓤 _) $ split ! $ move ! (2 ∷ []) $ fsplit ! $ fsplit ! $ move ! (1 ∷ []) $ feqL ! (λ len.
         move ! (2 ∷ 4 ∷ 0 ∷ []) $ comes-home E ℓ κ q x v ! tt ys (ws .0) len $ at-once ! $
@@ -107,7 +107,7 @@ module _ (E : RattleType) (ℓ : Lifetime) (κ : Lft) (q : Share) (x : RefT (Lis
         → ent 𝓤 (c (μ ∷ [], tt) (shown μ ε) .ensures (g μ ε) r e) (fact 𝓤 (Q r)))
         → ent 𝓤 (sem 𝓤 H A (Whole ys)) (H .⇛ (C callee (v ∷ us) (Yields 𝓤 H R (λ r. guard 𝓤 (Q r) (sem 𝓤 H A (Whole ys))))))
     lends-shr callee known us us-are are g asked Q said =
-        qed W (‵ (Whole ys) ∷ []) ∵ updating ! $ shares E ℓ κ q x v ! tt (named 0) ys (λ μ ε.
+        qed W (‵ (Whole ys) ∷ []) ∵ updating ! $ lends-shared E ℓ κ q x v ! tt (named 0) ys (λ μ ε.
         let to : Contracted 𝓤 H A (TakesShr E (types-of vs) R) c .Ghost = (((μ ∷ [], tt), (fullShare, tt), tt, shown μ ε, (v ∷ [], vals-shown μ)), g μ ε) in
         at-once ! $ regoal ! (λ (ws : List Val). prop (C callee (v ∷ ws) (Yields 𝓤 H R (λ r. guard 𝓤 (Q r) (sem 𝓤 H A (Whole ys)))))) (sym (us-are μ)) refl $
         -- [the slice, lent; μ's token; what is kept of it]
@@ -116,7 +116,7 @@ module _ (E : RattleType) (ℓ : Lifetime) (κ : Lft) (q : Share) (x : RefT (Lis
         use0 W (raw (c (μ ∷ [], tt) (shown μ ε) .requires (g μ ε))) (asked μ ε) $ move ! (1 ∷ 0 ∷ []) $
         use2 W (raw (Contracted 𝓤 H A (TakesShr E (types-of vs) R) c .pre to)) (id⊢ 𝓤 _) $
         asks ! fm (Contracted 𝓤 H A (TakesShr E (types-of vs) R) c) known to
-        (λ w. updating ! $ answers ! (TakesShr E (types-of vs) R) c to w (λ r is ws. use1 W (raw (fact 𝓤 (Q r))) (said μ ε r _) $ heard ! (Q r) (λ holds.
+        (λ w. updating ! $ call-answers ! (TakesShr E (types-of vs) R) c to w (λ r is ws. use1 W (raw (fact 𝓤 (Q r))) (said μ ε r _) $ heard ! (Q r) (λ holds.
         -- [the tokens; the last lists; what is kept of the slice]
         use1 W (‵ (flft (μ ∷ []) fullShare) ⊛ ‵ ftrue) (id⊢ 𝓤 _) $ split ! $ move ! (0 ∷ 3 ∷ []) $ returns-home E ℓ κ q x v ! tt ys $ at-once ! $
         show ! (λ (z : R .Denot). guard 𝓤 (Is R z (w ∷ [])) (guard 𝓤 (Q z) (sem 𝓤 H A (Whole ys)))) r $ check ! is $ check ! holds $ keep ! (0 ∷ []) $ done !))))
@@ -125,11 +125,11 @@ module _ (E : RattleType) (ℓ : Lifetime) (κ : Lft) (q : Share) (x : RefT (Lis
 module _ (E F : RattleType) (ℓ ℓ′ : Lifetime) (κ κ′ : Lft) (q q′ : Share) (x : RefT (List (E .Denot))) (z : RefT (List (F .Denot))) (xv zv : Val) where
   -- x, as it is held
   abbrev pub Written : List (E .Denot) → Fml
-  Written = Holds E ℓ κ q x xv
+  Written = HasSlice E ℓ κ q x xv
 
   -- z, as it is held
   abbrev pub Read : List (F .Denot) → Fml
-  Read = Holds F ℓ′ κ′ q′ z zv
+  Read = HasSlice F ℓ′ κ′ q′ z zv
 
   module _ {M : Type 1} (𝓤 : URA M) (H : Heap 𝓤) (A : Atoms 𝓤) (W : Given 𝓤 H A) (C : Calls 𝓤 H) (fm : FmC 𝓤 H (W .laws) C) (xs : List (E .Denot))
       (zs : List (F .Denot)) where
@@ -155,7 +155,7 @@ module _ (E F : RattleType) (ℓ ℓ′ : Lifetime) (κ κ′ : Lft) (q q′ : S
       lends-both callee known us us-are are g asked Q said =
           let Ends : R .Denot → List (E .Denot) → SProp 𝓤 = λ r us. guard 𝓤 (Q r us) (sep 𝓤 (sem 𝓤 H A (Written us)) (sem 𝓤 H A (Read zs))) in
           qed W (‵ (Written xs) ∷ ‵ (Read zs) ∷ []) ∵ updating ! $
-          lends E ℓ κ q x xv ! tt (named 0) xs (λ ν δ. move ! (3 ∷ []) $ shares F ℓ′ κ′ q′ z zv ! tt (named 1) zs (λ μ ε.
+          lends E ℓ κ q x xv ! tt (named 0) xs (λ ν δ. move ! (3 ∷ []) $ lends-shared F ℓ′ κ′ q′ z zv ! tt (named 1) zs (λ μ ε.
           let κs : Lfts 2 = (ν ∷ [], (μ ∷ [], tt)) in
           let to : Contracted 𝓤 H A (TakesBoth E F (types-of vs) R) c .Ghost =
           ((κs, (fullShare, (fullShare, tt)), tt, lent-args ν μ δ ε, (xv ∷ [], (zv ∷ [], vals-lent κs))), g ν μ δ ε) in
@@ -166,7 +166,7 @@ module _ (E F : RattleType) (ℓ ℓ′ : Lifetime) (κ κ′ : Lft) (q q′ : S
           move ! (2 ∷ 0 ∷ []) $ join ! $ move ! (3 ∷ 0 ∷ []) $ join ! $ move ! (0 ∷ 1 ∷ []) $ join ! $
           use0 W (raw (c κs (lent-args ν μ δ ε) .requires (g ν μ δ ε))) (asked ν μ δ ε) $ move ! (1 ∷ 0 ∷ []) $
           use2 W (raw (Contracted 𝓤 H A (TakesBoth E F (types-of vs) R) c .pre to)) (id⊢ 𝓤 _) $
-          asks ! fm (Contracted 𝓤 H A (TakesBoth E F (types-of vs) R) c) known to (λ w. updating ! $ answers ! (TakesBoth E F (types-of vs) R) c to w (λ r is ws.
+          asks ! fm (Contracted 𝓤 H A (TakesBoth E F (types-of vs) R) c) known to (λ w. updating ! $ call-answers ! (TakesBoth E F (types-of vs) R) c to w (λ r is ws.
           use1 W (raw (fact 𝓤 (Q r (ws .0)))) (said ν μ δ ε r _) $ heard ! (Q r (ws .0)) (λ holds.
           -- [the tokens; the last lists; what is kept of z; what is kept of x]
           use1 W (‵ (flft (ν ∷ []) fullShare) ⊛ ‵ (flft (μ ∷ []) fullShare) ⊛ ‵ ftrue) (id⊢ 𝓤 _) $ split ! $ move ! (1 ∷ []) $ split ! $ move ! (0 ∷ 4 ∷ []) $

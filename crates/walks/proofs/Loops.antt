@@ -18,17 +18,17 @@ use types.Kit.{Item}
 use types.Run.{Below}
 
 -- what stands behind the first statement of a sequence
-abbrev pub after : Body → Body
-after skip = skip
-after (seq a b) = b
-after (assign p r) = skip
-after (block b) = skip
-after (loop b) = skip
-after (cond c a b) = skip
-after (switch c ms) = skip
-after (exit n) = skip
-after return = skip
-after (call f xs d) = skip
+abbrev pub behind-first : Body → Body
+behind-first skip = skip
+behind-first (seq a b) = b
+behind-first (assign p r) = skip
+behind-first (block b) = skip
+behind-first (loop b) = skip
+behind-first (cond c a b) = skip
+behind-first (switch c ms) = skip
+behind-first (exit n) = skip
+behind-first return = skip
+behind-first (call f xs d) = skip
 
 module _ (n : ℕ) (P : ℕ → Type 0) where
   -- a count up to n, with P of it

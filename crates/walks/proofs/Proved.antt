@@ -1,6 +1,6 @@
 -- How a function that is walked is proved.
 --     Walked           what is to be shown of its code: it runs from what there is on entry, with the parameters' machine values written out and their relations in
---                      hand, to `Done` of its answer, which is the contract, with what is had of each parameter at exit
+--                      hand, to `Finished` of its answer, which is the contract, with what is had of each parameter at exit
 --     proved           with that, it meets its contract
 -- Assumes nothing.
 use Prim.Native.Nat.{ℕ}
@@ -32,14 +32,14 @@ use Rattle.walks.proofs.Known.{Parameter, knowns, stays, goes, rows, sp
 module _ {n : ℕ} (ps : List (Parameter n)) (r : Slot n) {M : Type 1} (𝓤 : URA M) (H : Heap 𝓤) (A : Atoms 𝓤) (c : Clauses 𝓤 (ended (knowns ps) r)) where
   module _ (κs : Lfts n) (qs : Shares n) (a : Denots (rows κs (knowns ps))) (g : c κs a .ghost) where
     -- what there is when the function has answered with a machine value
-    abbrev pub Done : Val → SProp 𝓤
-    Done = walkOf 𝓤 H A (ended (knowns ps) r) (stays ps) c .post ((κs, qs, tt, a, valss (rows κs (knowns ps)) (spells κs (knowns ps)) a), g)
+    abbrev pub Finished : Val → SProp 𝓤
+    Finished = walkOf 𝓤 H A (ended (knowns ps) r) (stays ps) c .post ((κs, qs, tt, a, valss (rows κs (knowns ps)) (spells κs (knowns ps)) a), g)
 
   -- what is to be shown of a function's code
   abbrev pub Walked : Fun 𝓤 → Type 1
   Walked run = (κs : Lfts n) (qs : Shares n) (a : Denots (rows κs (knowns ps))) (g : c κs a .ghost) → Related κs (knowns ps) a
       → ent 𝓤 (sep 𝓤 (onEntry 𝓤 H A (ended (knowns ps) r .signature) κs qs a (valss (rows κs (knowns ps)) (spells κs (knowns ps)) a)) (c κs a .requires g))
-      (run (passed-as κs (knowns ps) a) (Done κs qs a g))
+      (run (passed-as κs (knowns ps) a) (Finished κs qs a g))
 
 module _ {n : ℕ} (ps : List (Parameter n)) (r : Slot n) {M : Type 1} (𝓤 : URA M) (H : Heap 𝓤) (𝓜 : Model 𝓤 H) (𝓖 : GhostRules 𝓤 H) (𝓡 : Running 𝓤 H 𝓜) (γ : Env) where
   -- the function of the name k

@@ -16,8 +16,8 @@ enum-known-refusal c = search needs
 enum-told : tie.Need-enum-told
 enum-told c = search needs
 
-layout-requires : tie.Need-layout-requires
-layout-requires c κs = search needs
+layout-of-words-requires : tie.Need-layout-of-words-requires
+layout-of-words-requires c κs = search needs
 
 returns : tie.Need-returns
 unfolding openAreaWords
@@ -27,9 +27,9 @@ returns-2 : tie.Need-returns-2
 unfolding openAreaWords
 returns-2 c =
     rw (sym (c .before .before .before .word-verdict .ensures) ∙ c .before .enum-told .given .1)
-    (ap gives (c .layout .ensures))
+    (ap gives (c .layout-of-words .ensures))
 
 pub open-words-spec : {M : Type 1} → statement M
 open-words-spec =
     tie.close
-    (tie.spec word-verdict-requires enum-known-refusal enum-told layout-requires returns returns-2)
+    (tie.spec word-verdict-requires enum-known-refusal enum-told layout-of-words-requires returns returns-2)

@@ -2,7 +2,7 @@
 -- Assumes nothing.
 use native.Mathlib.Omega.{arith}
 use Rattle.area_rules.specs.Rules.{wordIn}
-use Rattle.area_rules.proofs.Counts.{Counted, counted, line-most}
+use Rattle.area_rules.proofs.Counts.{AreaCounted, counted, line-most}
 use borrow.Author.Needs.{needs}
 use Rattle.area_directory.proofs.audit_end_of.Statement.{statement}
 use Rattle.area_directory.proofs.audit_end_of.Tie as tie
@@ -23,7 +23,7 @@ end-of-audit-requires : tie.Need-end-of-audit-requires
 unfolding wordIn
 end-of-audit-requires c κs =
     let s = c .before .before .before .before in
-    let k : Counted _ = counted _ (s .pre .0) in
+    let k : AreaCounted _ = counted _ (s .pre .0) in
     omega (arith, k, c .before .line-length-of .ensures, line-most _ (s .pre .0) (s .pre .1))
 
 returns : tie.Need-returns

@@ -2,7 +2,7 @@
 -- Assumes nothing.
 use native.Mathlib.Omega.{arith}
 use Rattle.area_rules.specs.Rules.{wordIn}
-use Rattle.area_rules.proofs.Counts.{width-bounds, Counted, counted}
+use Rattle.area_rules.proofs.Counts.{width-bounds, AreaCounted, counted}
 use borrow.Author.Needs.{needs}
 use Rattle.area_directory.proofs.line_length_of.Statement.{statement}
 use Rattle.area_directory.proofs.line_length_of.Tie as tie
@@ -22,7 +22,7 @@ element-copy-out-length-of-line-4 c = search needs
 length-of-line-requires : tie.Need-length-of-line-requires
 unfolding wordIn
 length-of-line-requires c κs =
-    let k : Counted _ = counted _ (c .before .before .before .before .pre) in
+    let k : AreaCounted _ = counted _ (c .before .before .before .before .pre) in
     omega (arith, width-bounds _ (k .w11))
 
 returns : tie.Need-returns

@@ -3,7 +3,7 @@
 use native.Mathlib.Omega.{arith}
 use borrow.Author.Tests.{eq-eqb, ne-eqb}
 use Rattle.area_rules.specs.Rules.{wordIn}
-use Rattle.area_rules.proofs.Counts.{Counted, counted}
+use Rattle.area_rules.proofs.Counts.{AreaCounted, counted}
 use borrow.Author.Needs.{needs}
 use Rattle.area_directory.proofs.prefix_length_of.Statement.{statement}
 use Rattle.area_directory.proofs.prefix_length_of.Tie as tie
@@ -16,21 +16,21 @@ element-copy-out-regions-2 c = search needs
 
 add-regions : tie.Need-add-regions
 unfolding wordIn
-add-regions c = let k : Counted _ = counted _ (c .before .before .pre) in omega arith
+add-regions c = let k : AreaCounted _ = counted _ (c .before .before .pre) in omega arith
 
 element-copy-out-regions-3 : tie.Need-element-copy-out-regions-3
 element-copy-out-regions-3 c = search needs
 
 add-regions-2 : tie.Need-add-regions-2
 unfolding wordIn
-add-regions-2 c = let k : Counted _ = counted _ (c .before .before .before .pre) in omega arith
+add-regions-2 c = let k : AreaCounted _ = counted _ (c .before .before .before .pre) in omega arith
 
 element-copy-out-if1 : tie.Need-element-copy-out-if1
 element-copy-out-if1 c = search needs
 
 add-result : tie.Need-add-result
 unfolding wordIn
-add-result c = let k : Counted _ = counted _ (c .before .before .before .before .before .pre) in omega arith
+add-result c = let k : AreaCounted _ = counted _ (c .before .before .before .before .before .pre) in omega arith
 
 returns : tie.Need-returns
 unfolding wordIn

@@ -7,7 +7,7 @@ use denote.Ref.{now}
 use Rattle.refusal_rules.specs.Answers.{mapped, placeSays}
 use Rattle.area_rules.proofs.Samples.{width-to}
 use Rattle.copy_rules.specs.Runs.{copied}
-use Rattle.area_part_rules.proofs.Lines.{runFrom, line-from, run-inside}
+use Rattle.area_part_rules.proofs.Lines.{lineFrom, line-from, line-inside}
 use borrow.Author.Needs.{needs}
 use Rattle.area_lines.proofs.copy_channel.Statement.{statement}
 use Rattle.area_lines.proofs.copy_channel.Tie as tie
@@ -38,7 +38,7 @@ cast-t15 c = search needs
 copy-numbers-requires : tie.Need-copy-numbers-requires
 copy-numbers-requires c κs =
     let s = c .before .before .before .before .before .before .before .before .before .before in
-    run-inside (now (s .args .file)) (s .args .l) (s .pre) (s .args .line) (s .args .channel) _
+    line-inside (now (s .args .file)) (s .args .l) (s .pre) (s .args .line) (s .args .channel) _
     (sym (c .before .before .before .before .before .before .before .sample-place .ensures)
     ∙ ap placeSays (c .before .before .before .before .before .place .given .1))
 
@@ -47,8 +47,8 @@ returns c =
     let s = c .before .before .before .before .before .before in
     let a = s .args in
     ap (λ x. copied x (now (a .out)))
-    (ap (λ x. mapped (runFrom (now (a .file)) (a .l)) (placeSays x)) (sym (c .before .refusal .given .1))
-    ∙ ap (mapped (runFrom (now (a .file)) (a .l))) (c .before .before .before .sample-place .ensures)
+    (ap (λ x. mapped (lineFrom (now (a .file)) (a .l)) (placeSays x)) (sym (c .before .refusal .given .1))
+    ∙ ap (mapped (lineFrom (now (a .file)) (a .l))) (c .before .before .before .sample-place .ensures)
     ∙ line-from (now (a .file)) (a .l) (s .pre .fits) (a .line) (a .channel))
 
 same-length : tie.Need-same-length
@@ -60,8 +60,8 @@ returns-2 c =
     let a = s .args in
     c .before .before .copy-numbers .ensures
     ∙ ap (λ x. copied x (now (a .out)))
-    (ap (λ x. mapped (runFrom (now (a .file)) (a .l)) (placeSays x)) (sym (c .before .before .before .before .before .before .before .before .place .given .1))
-    ∙ ap (mapped (runFrom (now (a .file)) (a .l))) (c .before .before .before .before .before .before .before .before .before .before .sample-place .ensures)
+    (ap (λ x. mapped (lineFrom (now (a .file)) (a .l)) (placeSays x)) (sym (c .before .before .before .before .before .before .before .before .place .given .1))
+    ∙ ap (mapped (lineFrom (now (a .file)) (a .l))) (c .before .before .before .before .before .before .before .before .before .before .sample-place .ensures)
     ∙ line-from (now (a .file)) (a .l) (s .pre .fits) (a .line) (a .channel))
 
 pub copy-channel-spec : {M : Type 1} → statement M

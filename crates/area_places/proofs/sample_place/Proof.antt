@@ -5,7 +5,7 @@ use Prim.Native.Nat.{ℕ}
 use native.Mathlib.Omega.{arith}
 use Rattle.refusal_rules.specs.Answers.{gives, numberSays, place}
 use Rattle.refusal_rules.proofs.Tables.{pass-hold}
-use Rattle.area_rules.proofs.Bands.{slot-inside}
+use Rattle.area_rules.proofs.Bands.{named-slot-inside}
 use Rattle.area_rules.specs.Places.{samplePlace}
 use Rattle.area_rules.proofs.Tables.{samples-hold}
 use borrow.Author.Needs.{needs}
@@ -34,7 +34,7 @@ sample-address-requires : tie.Need-sample-address-requires
 sample-address-requires c κs =
     let s = c .before .before .before .before .before .before .before in
     let (bounds, (line, element)) = samples-hold _ _ _ .0 (pass-hold _ (sym (c .before .before .sample-verdict .ensures) ∙ c .enum-told .given .1)) in
-    let slot = slot-inside (s .args .l) (s .args .channel) _ (sym (c .before .before .before .before .before .before .slot-of .ensures) ∙ ap numberSays (c .before .before .before .before .slot .given .1)) in
+    let slot = named-slot-inside (s .args .l) (s .args .channel) _ (sym (c .before .before .before .before .before .before .slot-of .ensures) ∙ ap numberSays (c .before .before .before .before .slot .given .1)) in
     (bounds, (omega arith, (omega arith, omega arith)))
 
 cast-t13 : tie.Need-cast-t13

@@ -58,14 +58,14 @@ use Rattle.extent_steps.proofs.run_after as step
 use Rattle.extent_steps.proofs.run_after.Symbol as step-def
 use Rattle.extent_steps.proofs.run_after.Met as step-met
 use Rattle.walks.proofs.Again.{closes-as}
-use Rattle.walks.proofs.Calls.{answered}
-use Rattle.extent_table_steps.proofs.Extents.{value, values, tells, lawful, makes, ToldExtent, order-value, makes-order, an-order}
+use Rattle.walks.proofs.Calls.{call-answered}
+use Rattle.extent_table_steps.proofs.Extents.{extent-value, extent-values, extent-tells, lawful, makes, ToldExtent, order-value, makes-order, an-order}
 use Rattle.walks.proofs.Contracts.{Contracted}
 use Rattle.walks.proofs.Known.{Parameter, number, by-value, seen, held, knowns, stays, Related, typed}
 use Rattle.walks.proofs.Locals.{Addresses, env, Holding, empty, holds, cell, cells, starts, frees-all, at}
-use Rattle.walks.proofs.Proved.{Done, proved}
+use Rattle.walks.proofs.Proved.{Finished, proved}
 use Rattle.walks.proofs.Slices.{member}
-use Rattle.walks.proofs.Loops.{after, Upto, Nearer, nearer-wf, Turned}
+use Rattle.walks.proofs.Loops.{behind-first, Upto, Nearer, nearer-wf, Turned}
 use Rattle.extent_table_steps.proofs.fill as self
 use Rattle.extent_table_steps.proofs.fill.Code as code
 use Rattle.extent_table_steps.proofs.fill.Code.Mir as Mir
@@ -74,7 +74,7 @@ use Rattle.extent_table_steps.proofs.fill.Statement.{statement}
 
 -- the turn's statements behind its test, and what stands behind the loop
 abbrev more : Body
-more = after (after Mir.turn-1)
+more = behind-first (behind-first Mir.turn-1)
 
 abbrev rest : Body
 rest = Mir.t-4
@@ -174,7 +174,7 @@ module _ {M : Type 1} (𝓤 : URA M) (H : Heap 𝓤) (A : Atoms 𝓤) (W : Given
   vals = (xv ∷ [], (fv ∷ [], (ov ∷ [], (vint w64 n ∷ [], tt))))
 
   abbrev Post : Val → SProp 𝓤
-  Post = Done params (plain (λ _. Nothing)) 𝓤 H A (self.clauses 𝓤 H A mem run) κs qs a tt
+  Post = Finished params (plain (λ _. Nothing)) 𝓤 H A (self.clauses 𝓤 H A mem run) κs qs a tt
 
   -- the runs, and the table with the first i places filled
   abbrev cur : ℕ → Extent
@@ -210,19 +210,19 @@ module _ {M : Type 1} (𝓤 : URA M) (H : Heap 𝓤) (A : Atoms 𝓤) (W : Given
 
   asks-start : ent 𝓤 (mean 𝓤 H A File) (C start-def.name (fv ∷ ov ∷ []) (λ u. mean 𝓤 H A (Ran 0 u)))
   asks-start =
-      passes (suffices ! _ (answered 𝓤 H A W C fm start.ended (start.clauses 𝓤 H A mem run) to-start (directoryExtent order (now file)) (λ r e. id⊢ 𝓤 _)
-      values tells (lawful 𝓤 H A W) (cur 0) (first-run order (now file)) (sem 𝓤 H A OwnF) start-def.name known-start (id⊢ 𝓤 _)) $
+      passes (suffices ! _ (call-answered 𝓤 H A W C fm start.ended (start.clauses 𝓤 H A mem run) to-start (directoryExtent order (now file)) (λ r e. id⊢ 𝓤 _)
+      extent-values extent-tells (lawful 𝓤 H A W) (cur 0) (first-run order (now file)) (sem 𝓤 H A OwnF) start-def.name known-start (id⊢ 𝓤 _)) $
       nothing ! $ owned ! O.the-row (Is O.the-row) (makes-order 𝓤 H A) order _ order-is $ fjoin ! $ move ! (1 ∷ 0 ∷ []) $ fjoin ! $ move ! (1 ∷ 0 ∷ []) $ done !)
 
-  module _ (i : ℕ) (l : i < n) (is : Is X.the-row (cur i) (value (cur i) ∷ [])) where
+  module _ (i : ℕ) (l : i < n) (is : Is X.the-row (cur i) (extent-value (cur i) ∷ [])) where
     abbrev to-step : Stepping 𝓤 H A mem run .Ghost
-    to-step = (((κ′, tt), (q′, tt), tt, (file, (order, (cur i, tt))), (fv ∷ [], (ov ∷ [], (value (cur i) ∷ [], tt)))), tt)
+    to-step = (((κ′, tt), (q′, tt), tt, (file, (order, (cur i, tt))), (fv ∷ [], (ov ∷ [], (extent-value (cur i) ∷ [], tt)))), tt)
 
-    asks-step : ent 𝓤 (mean 𝓤 H A File) (C step-def.name (fv ∷ ov ∷ value (cur i) ∷ []) (λ u. mean 𝓤 H A (Ran (i + 1) u)))
+    asks-step : ent 𝓤 (mean 𝓤 H A File) (C step-def.name (fv ∷ ov ∷ extent-value (cur i) ∷ []) (λ u. mean 𝓤 H A (Ran (i + 1) u)))
     asks-step =
         let ok : GridAccepted order (now file) = asked .1 (omega (arith, l)) in
-        passes (suffices ! _ (answered 𝓤 H A W C fm step.ended (step.clauses 𝓤 H A mem run) to-step
-        (runAfter (wordAt order (now file)) (length (now file) / 4) (extentEnd (cur i))) (λ r e. id⊢ 𝓤 _) values tells (lawful 𝓤 H A W)
+        passes (suffices ! _ (call-answered 𝓤 H A W C fm step.ended (step.clauses 𝓤 H A mem run) to-step
+        (runAfter (wordAt order (now file)) (length (now file) / 4) (extentEnd (cur i))) (λ r e. id⊢ 𝓤 _) extent-values extent-tells (lawful 𝓤 H A W)
         (cur (i + 1)) (next-run order (now file) i) (sem 𝓤 H A OwnF) step-def.name known-step (factI 𝓤 _ (emp 𝓤) (ok, run-inside order (now file) ok i))) $
         nothing ! $ owned ! X.the-row (Is X.the-row) (makes 𝓤 H A) (cur i) _ is $ fjoin ! $ owned ! O.the-row (Is O.the-row) (makes-order 𝓤 H A) order _ order-is $
         fjoin ! $ move ! (1 ∷ 0 ∷ []) $ fjoin ! $ move ! (1 ∷ 0 ∷ []) $ done !)
@@ -230,10 +230,10 @@ module _ {M : Type 1} (𝓤 : URA M) (H : Heap 𝓤) (A : Atoms 𝓤) (W : Given
   -- ---- the loop
   -- what is known of the run that the count's turns have reached
   abbrev Count : Type 0
-  Count = Upto n (λ i. Is X.the-row (cur i) (value (cur i) ∷ []))
+  Count = Upto n (λ i. Is X.the-row (cur i) (extent-value (cur i) ∷ []))
 
   abbrev Later : Count → Count → Type 0
-  Later = Nearer n (λ i. Is X.the-row (cur i) (value (cur i) ∷ []))
+  Later = Nearer n (λ i. Is X.the-row (cur i) (extent-value (cur i) ∷ []))
 
   -- the table with the first i places filled, its borrow open
   abbrev Open : ℕ → List (Item 𝓤)
@@ -259,7 +259,7 @@ module _ {M : Type 1} (𝓤 : URA M) (H : Heap 𝓤) (A : Atoms 𝓤) (W : Given
 
     -- where _0 holds h
     abbrev Holds : Holding → ℕ → List Holding
-    Holds h i = h ∷ holds xv ∷ holds fv ∷ holds ov ∷ holds (vint w64 n) ∷ holds (value (cur i)) ∷ holds (vint w64 i) ∷ []
+    Holds h i = h ∷ holds xv ∷ holds fv ∷ holds ov ∷ holds (vint w64 n) ∷ holds (extent-value (cur i)) ∷ holds (vint w64 i) ∷ []
 
     -- [the file; the open table, 4 entries; _0; …]: local j stands at 5 + 2 · j
     abbrev At : Count → List (Item 𝓤)
@@ -278,17 +278,17 @@ module _ {M : Type 1} (𝓤 : URA M) (H : Heap 𝓤) (A : Atoms 𝓤) (W : Given
         let far : i .0 * 16 < 2 ^ 64 = omega (arith, room .1, within, lt) in
         let fits : i .0 + 1 < 2 ^ 64 = omega (arith, lt, n-fits) in
         skips ! $ exec ! C (𝓣 .Λ) En more (anyQ (Ends i)) $
-        use1 W (raw (C step-def.name (fv ∷ ov ∷ value (cur (i .0)) ∷ []) (λ u. mean 𝓤 H A (Ran (i .0 + 1) u)))) (asks-step (i .0) lt (i .1 .1)) $
+        use1 W (raw (C step-def.name (fv ∷ ov ∷ extent-value (cur (i .0)) ∷ []) (λ u. mean 𝓤 H A (Ran (i .0 + 1) u)))) (asks-step (i .0) lt (i .1 .1)) $
         calls ! fm (Ran (i .0 + 1)) (and-then ! (at ! 9 refl) (and-then ! (at ! 11 refl) (and-then ! (at ! 15 refl) (no-more !)))) (λ u. await ! tt $ learn ! (λ told.
         land ! (from ! (stop !)) (store ! 15 refl (told .typed .0)) $ rewrite ! 15 (cell 𝓤 H En 5) (ap only (told .is-value)) refl $
         assigns ! (bin ! (at ! 17 refl) (lit ! tt) (record { fits = far })) (from ! (stop !)) (init ! 21 refl (tt, record { fits = far })) $
         assigns ! (bin ! (member ! 7 0 refl refl refl) (at ! 21 refl) tt) (from ! (stop !)) (init ! 23 refl (tt, tt)) $
         rewrite ! 23 (λ (p : ℕ). cell 𝓤 H En 9 (vptr b p)) (sym (place-is 16 o (i .0))) refl $
-        move ! (1 ∷ []) $ elem-out ! X.the-row (Is X.the-row) (shows 𝓤 H A X.the-row) values tells fullShare (so-far (i .0)) (i .0) noWords b o in-table (λ _.
+        move ! (1 ∷ []) $ elem-out ! X.the-row (Is X.the-row) (shows 𝓤 H A X.the-row) extent-values extent-tells fullShare (so-far (i .0)) (i .0) noWords b o in-table (λ _.
         -- [table[i]; what it owns; the others; the file; the rest of the open table, 3 entries; _0; …]: local j stands at 7 + 2 · j
         assigns ! (of-opd ! (at ! 17 refl)) (from ! (hop ! (look ! 25 refl) (stop !))) (store-raw ! 0 refl (lawful 𝓤 H A W .typed (cur (i .0 + 1)) _ (told .is) .0)) $
         move ! (1 ∷ []) $ drop ! $ owned ! X.the-row (Is X.the-row) (makes 𝓤 H A) (cur (i .0 + 1)) _ (told .is) $ move ! (1 ∷ 0 ∷ []) $
-        elem-put ! X.the-row fullShare (so-far (i .0)) (i .0) (cur (i .0 + 1)) (values (cur (i .0 + 1))) b o in-table $
+        elem-put ! X.the-row fullShare (so-far (i .0)) (i .0) (cur (i .0 + 1)) (extent-values (cur (i .0 + 1))) b o in-table $
         rewrite ! 0 (λ (zs : List Extent). ‵ (row X.the-row fullShare zs b o)) (next-filled (i .0) lt) refl $ move ! (1 ∷ 0 ∷ []) $
         assigns-last ! (bin ! (at ! 17 refl) (lit ! tt) (record { fits = fits })) (from ! (stop !)) (store ! 17 refl (tt, record { fits = fits })) $
         forget ! 19 refl $ forget ! 21 refl $ forget ! 23 refl $
@@ -313,7 +313,7 @@ module _ {M : Type 1} (𝓤 : URA M) (H : Heap 𝓤) (A : Atoms 𝓤) (W : Given
       calls ! fm (Ran 0) (and-then ! (at ! 9 refl) (and-then ! (at ! 11 refl) (no-more !))) (λ u. await ! tt $ learn ! (λ told.
       land ! (from ! (stop !)) (init ! 15 refl (told .typed .0)) $ rewrite ! 15 (cell 𝓤 H (En l) 5) (ap only (told .is-value)) refl $
       assigns ! (of-opd ! (lit ! tt)) (from ! (stop !)) (init ! 17 refl (tt, record { fits = lit< tt })) $
-      first ! $ blocks ! $ loops ! 𝓣 Later (nearer-wf n (λ i. Is X.the-row (cur i) (value (cur i) ∷ []))) (At l) (turns l) (0, (zero-le, told .is)))))
+      first ! $ blocks ! $ loops ! 𝓣 Later (nearer-wf n (λ i. Is X.the-row (cur i) (extent-value (cur i) ∷ []))) (At l) (turns l) (0, (zero-le, told .is)))))
 
 pub fill-spec : {M : Type 1} → statement M
 unfolding code.routine tablesOf

@@ -50,14 +50,14 @@ use Rattle.extent_rules.proofs.Extent.Laws as X′
 use Rattle.extent_steps.proofs.first_fitting as pick
 use Rattle.extent_steps.proofs.first_fitting.Symbol as pick-def
 use Rattle.extent_steps.proofs.first_fitting.Met as pick-met
-use Rattle.walks.proofs.Calls.{answered}
-use Rattle.extent_table_steps.proofs.Extents.{value, values, tells, lawful, makes, ToldExtent}
+use Rattle.walks.proofs.Calls.{call-answered}
+use Rattle.extent_table_steps.proofs.Extents.{extent-value, extent-values, extent-tells, lawful, makes, ToldExtent}
 use Rattle.walks.proofs.Contracts.{Contracted}
 use Rattle.walks.proofs.Known.{Parameter, number, by-value, seen, knowns, stays, Related, typed}
 use Rattle.walks.proofs.Locals.{Addresses, env, Holding, empty, holds, cell, cells, starts, frees-all, at}
-use Rattle.walks.proofs.Proved.{Done, proved}
+use Rattle.walks.proofs.Proved.{Finished, proved}
 use Rattle.walks.proofs.Slices.{member}
-use Rattle.walks.proofs.Loops.{after, Upto, Nearer, nearer-wf, Turned}
+use Rattle.walks.proofs.Loops.{behind-first, Upto, Nearer, nearer-wf, Turned}
 use Rattle.extent_table_steps.proofs.first_fit as self
 use Rattle.extent_table_steps.proofs.first_fit.Code as code
 use Rattle.extent_table_steps.proofs.first_fit.Code.Mir as Mir
@@ -66,7 +66,7 @@ use Rattle.extent_table_steps.proofs.first_fit.Statement.{statement}
 
 -- the turn's statements behind its test, and what stands behind the loop
 abbrev more : Body
-more = after (after Mir.turn-1)
+more = behind-first (behind-first Mir.turn-1)
 
 abbrev rest : Body
 rest = Mir.t-4
@@ -84,7 +84,7 @@ next-found : (ys : List Extent) (need i : ℕ) → firstFitting need (searched y
 unfolding searched
 next-found ys need i = rw add-one
 
-none-is : Is X.the-row noWords (value noWords ∷ [])
+none-is : Is X.the-row noWords (extent-value noWords ∷ [])
 none-is = LL.owes X.the-type X′.the-laws noWords ((refl, lit< tt), ((refl, lit< tt), tt))
 
 -- the contract of `extent_steps::first_fitting`
@@ -135,7 +135,7 @@ module _ {M : Type 1} (𝓤 : URA M) (H : Heap 𝓤) (A : Atoms 𝓤) (W : Given
   vals = (xv ∷ [], (vint w64 n ∷ [], (vint w64 need ∷ [], tt)))
 
   abbrev Post : Val → SProp 𝓤
-  Post = Done params (plain (λ _. X.the-row)) 𝓤 H A (self.clauses 𝓤 H A mem run) κs qs a tt
+  Post = Finished params (plain (λ _. X.the-row)) 𝓤 H A (self.clauses 𝓤 H A mem run) κs qs a tt
 
   -- what is found among the first i extents
   abbrev found : ℕ → Extent
@@ -146,14 +146,14 @@ module _ {M : Type 1} (𝓤 : URA M) (H : Heap 𝓤) (A : Atoms 𝓤) (W : Given
   Chosen i u = later (given (ToldExtent (found i) u) (‵ ftrue ⊛ ‵ ftrue))
 
   -- the call, which is passed values only
-  module _ (i : ℕ) (is : Is X.the-row (found i) (value (found i) ∷ [])) (ie : Is X.the-row (getD ys i noWords) (value (getD ys i noWords) ∷ [])) where
+  module _ (i : ℕ) (is : Is X.the-row (found i) (extent-value (found i) ∷ [])) (ie : Is X.the-row (getD ys i noWords) (extent-value (getD ys i noWords) ∷ [])) where
     abbrev to-pick : Choosing 𝓤 H A mem run .Ghost
-    to-pick = ((tt, tt, tt, (need, (found i, (getD ys i noWords, tt))), (vint w64 need ∷ [], (value (found i) ∷ [], (value (getD ys i noWords) ∷ [], tt)))), tt)
+    to-pick = ((tt, tt, tt, (need, (found i, (getD ys i noWords, tt))), (vint w64 need ∷ [], (extent-value (found i) ∷ [], (extent-value (getD ys i noWords) ∷ [], tt)))), tt)
 
-    asks-pick : ent 𝓤 (emp 𝓤) (C pick-def.name (vint w64 need ∷ value (found i) ∷ value (getD ys i noWords) ∷ []) (λ u. mean 𝓤 H A (Chosen (i + 1) u)))
+    asks-pick : ent 𝓤 (emp 𝓤) (C pick-def.name (vint w64 need ∷ extent-value (found i) ∷ extent-value (getD ys i noWords) ∷ []) (λ u. mean 𝓤 H A (Chosen (i + 1) u)))
     asks-pick =
-        qed W [] ∵ suffices ! _ (answered 𝓤 H A W C fm pick.ended (pick.clauses 𝓤 H A mem run) to-pick (firstFitting need (found i) (getD ys i noWords))
-        (λ r e. id⊢ 𝓤 _) values tells (lawful 𝓤 H A W) (found (i + 1)) (next-found ys need i) (emp 𝓤) pick-def.name known-pick (id⊢ 𝓤 _)) $
+        qed W [] ∵ suffices ! _ (call-answered 𝓤 H A W C fm pick.ended (pick.clauses 𝓤 H A mem run) to-pick (firstFitting need (found i) (getD ys i noWords))
+        (λ r e. id⊢ 𝓤 _) extent-values extent-tells (lawful 𝓤 H A W) (found (i + 1)) (next-found ys need i) (emp 𝓤) pick-def.name known-pick (id⊢ 𝓤 _)) $
         nothing ! $ nothing ! $ owned ! X.the-row (Is X.the-row) (makes 𝓤 H A) (getD ys i noWords) _ ie $ fjoin ! $
         owned ! X.the-row (Is X.the-row) (makes 𝓤 H A) (found i) _ is $ fjoin ! $
         owned ! usize (Is usize) (uint-makes 𝓤 H A W w64) need _ (are .1 .1 .0) $ fjoin ! $ nothing ! $ done !
@@ -161,19 +161,19 @@ module _ {M : Type 1} (𝓤 : URA M) (H : Heap 𝓤) (A : Atoms 𝓤) (W : Given
   -- ---- the loop
   -- what is known of what is found by the count
   abbrev Count : Type 0
-  Count = Upto n (λ i. Is X.the-row (found i) (value (found i) ∷ []))
+  Count = Upto n (λ i. Is X.the-row (found i) (extent-value (found i) ∷ []))
 
   abbrev Later : Count → Count → Type 0
-  Later = Nearer n (λ i. Is X.the-row (found i) (value (found i) ∷ []))
+  Later = Nearer n (λ i. Is X.the-row (found i) (extent-value (found i) ∷ []))
 
   -- the table's elements, shared, and the token of its lifetime
   abbrev Shared : List (Item 𝓤)
   Shared = ‵ (fshr-bor κ (λ s. arr-parts (shares X.the-row) (length ys) .part s ys b o)) ∷ ‵ (flft κ q) ∷ []
 
-  exits : (i : ℕ) → i ≡ n → Is X.the-row (found i) (value (found i) ∷ []) → ent 𝓤 (⋆ 𝓤 H A Shared) (Post (value (found i)))
+  exits : (i : ℕ) → i ≡ n → Is X.the-row (found i) (extent-value (found i) ∷ []) → ent 𝓤 (⋆ 𝓤 H A Shared) (Post (extent-value (found i)))
   exits i e is =
       qed W Shared ∵ drop ! $
-      suffices ! _ (ends-at 𝓤 H A self.ended (stays params) (self.clauses 𝓤 H A mem run) W ((κs, qs, tt, a, vals), tt) (value (found i)) (found i)
+      suffices ! _ (ends-at 𝓤 H A self.ended (stays params) (self.clauses 𝓤 H A mem run) W ((κs, qs, tt, a, vals), tt) (extent-value (found i)) (found i)
       (tt, (tt, (tt, tt))) (tt, (tt, (tt, tt)))) $ says ! (ap found e) $
       nothing ! $ move ! (1 ∷ 0 ∷ []) $ join ! $ frame ! $ nothing ! $ nothing ! $ fjoin ! $ nothing ! $ fjoin ! $ nothing ! $ fjoin ! $ frame ! $
       owned ! X.the-row (Is X.the-row) (makes 𝓤 H A) (found i) _ is $ done !
@@ -184,7 +184,7 @@ module _ {M : Type 1} (𝓤 : URA M) (H : Heap 𝓤) (A : Atoms 𝓤) (W : Given
 
     -- where _0 holds h
     abbrev Holds : Holding → ℕ → List Holding
-    Holds h i = h ∷ holds xv ∷ holds (vint w64 n) ∷ holds (vint w64 need) ∷ holds (value (found i)) ∷ holds (vint w64 i) ∷ []
+    Holds h i = h ∷ holds xv ∷ holds (vint w64 n) ∷ holds (vint w64 need) ∷ holds (extent-value (found i)) ∷ holds (vint w64 i) ∷ []
 
     -- [the shared table; its token; _0; …]: local j stands at 2 + 2 · j
     abbrev At : Count → List (Item 𝓤)
@@ -206,13 +206,13 @@ module _ {M : Type 1} (𝓤 : URA M) (H : Heap 𝓤) (A : Atoms 𝓤) (W : Given
         assigns ! (bin ! (at ! 12 refl) (lit ! tt) (record { fits = far })) (from ! (stop !)) (init ! 16 refl (tt, record { fits = far })) $
         assigns ! (bin ! (member ! 4 0 refl refl refl) (at ! 16 refl) tt) (from ! (stop !)) (init ! 18 refl (tt, tt)) $
         rewrite ! 18 (λ (p : ℕ). cell 𝓤 H En 8 (vptr b p)) (sym (place-is 16 o (i .0))) refl $
-        looks-slice ! tt X.the-row (Is X.the-row) (shows 𝓤 H A X.the-row) values tells (LL.copy X.the-type X′.the-copy 𝓤 H A W) ys b o (λ q′.
-        elem-out ! X.the-row (Is X.the-row) (shows 𝓤 H A X.the-row) values tells q′ ys (i .0) noWords b o in-table (λ ie.
+        looks-slice ! tt X.the-row (Is X.the-row) (shows 𝓤 H A X.the-row) extent-values extent-tells (LL.copy X.the-type X′.the-copy 𝓤 H A W) ys b o (λ q′.
+        elem-out ! X.the-row (Is X.the-row) (shows 𝓤 H A X.the-row) extent-values extent-tells q′ ys (i .0) noWords b o in-table (λ ie.
         -- [table[i]; what it owns; the others; what closes the table; the shared table; _0; …]: local j stands at 5 + 2 · j
         assigns ! (of-opd ! (load ! (from ! (hop ! (look ! 21 refl) (stop !))) (look-raw ! 0 refl))) (from ! (stop !))
         (init ! 23 refl (lawful 𝓤 H A W .typed (getD ys (i .0) noWords) _ ie .0)) $
-        elem-back ! X.the-row q′ ys (i .0) noWords (values (getD ys (i .0) noWords)) b o in-table $ shuts-slice ! tt X.the-row q′ ys b o $ move ! (1 ∷ 0 ∷ []) $
-        use0 W (raw (C pick-def.name (vint w64 need ∷ value (found (i .0)) ∷ value (getD ys (i .0) noWords) ∷ []) (λ u. mean 𝓤 H A (Chosen (i .0 + 1) u))))
+        elem-back ! X.the-row q′ ys (i .0) noWords (extent-values (getD ys (i .0) noWords)) b o in-table $ shuts-slice ! tt X.the-row q′ ys b o $ move ! (1 ∷ 0 ∷ []) $
+        use0 W (raw (C pick-def.name (vint w64 need ∷ extent-value (found (i .0)) ∷ extent-value (getD ys (i .0) noWords) ∷ []) (λ u. mean 𝓤 H A (Chosen (i .0 + 1) u))))
         (asks-pick (i .0) (i .1 .1) ie) $
         calls ! fm (Chosen (i .0 + 1)) (and-then ! (at ! 9 refl) (and-then ! (at ! 11 refl) (and-then ! (at ! 21 refl) (no-more !)))) (λ u.
         await ! tt $ learn ! (λ told. drop ! $
@@ -222,7 +222,7 @@ module _ {M : Type 1} (𝓤 : URA M) (H : Heap 𝓤) (A : Atoms 𝓤) (W : Given
         again ! Later At i (i .0 + 1, (add-one-le lt, told .is)) (add-one-dec n (i .0) lt))))))
         (λ over. jumps ! $ exec ! C (𝓣 .Λ) En rest (atRet En Post) $
         assigns ! (of-opd ! (at ! 10 refl)) (from ! (stop !)) (init ! 2 refl (lawful 𝓤 H A W .typed (found (i .0)) _ (i .1 .1) .0)) $ forget ! 14 refl $
-        returns ! (look ! 2 refl) $ frees-all W ! Shared En (Holds (holds (value (found (i .0)))) (i .0))
+        returns ! (look ! 2 refl) $ frees-all W ! Shared En (Holds (holds (extent-value (found (i .0)))) (i .0))
         (by ! (exits (i .0) (le-antisymm (i .1 .0) (nltb→le (i .0) n over)) (i .1 .1))))
 
   walk : ent 𝓤 (onEntry 𝓤 H A self.signature κs qs a vals) (WpFn 𝓤 H C (𝓣 .Λ) code.function (xv ∷ vint w64 n ∷ vint w64 need ∷ []) Post)
@@ -231,10 +231,10 @@ module _ {M : Type 1} (𝓤 : URA M) (H : Heap 𝓤) (A : Atoms 𝓤) (W : Given
       split ! $ move ! (1 ∷ []) $ drop ! $ move ! (1 ∷ []) $ fsplit ! $ move ! (1 ∷ []) $ drop ! $ fsplit ! $ drop ! $ fsplit ! $ drop ! $
       starts W ! C (𝓣 .Λ) code.function (xv ∷ vint w64 n ∷ vint w64 need ∷ []) Post (typed κs 𝓤 H A W (knowns params) a are) (λ l.
       assigns ! (agg ! (and-then ! (lit ! tt) (and-then ! (lit ! tt) (no-more !)))) (from ! (stop !)) (init ! 10 refl (lawful 𝓤 H A W .typed noWords _ none-is .0)) $
-      rewrite ! 10 (λ (e : Extent). cell 𝓤 H (En l) 4 (value e)) (first-found ys need) refl $
+      rewrite ! 10 (λ (e : Extent). cell 𝓤 H (En l) 4 (extent-value e)) (first-found ys need) refl $
       assigns ! (of-opd ! (lit ! tt)) (from ! (stop !)) (init ! 12 refl (tt, record { fits = lit< tt })) $
-      first ! $ blocks ! $ loops ! 𝓣 Later (nearer-wf n (λ i. Is X.the-row (found i) (value (found i) ∷ []))) (At l) (turns l)
-      (0, (zero-le, subst (λ (e : Extent). Is X.the-row e (value e ∷ [])) (first-found ys need) none-is)))
+      first ! $ blocks ! $ loops ! 𝓣 Later (nearer-wf n (λ i. Is X.the-row (found i) (extent-value (found i) ∷ []))) (At l) (turns l)
+      (0, (zero-le, subst (λ (e : Extent). Is X.the-row e (extent-value e ∷ [])) (first-found ys need) none-is)))
 
 pub first-fit-spec : {M : Type 1} → statement M
 unfolding code.routine tablesOf

@@ -43,13 +43,13 @@ use Rattle.extent_rules.specs.Steps.{GridAccepted, runsOver}
 use Rattle.extent_rules.proofs.Extent as X
 use Rattle.walks.proofs.Calls.{Yields, yields, calls-into}
 use Rattle.walks.proofs.Contracts.{Contracted}
-use Rattle.walks.proofs.Held.{Holds, counts}
+use Rattle.walks.proofs.Held.{HasSlice, counts}
 use Rattle.walks.proofs.Known.{Parameter, number, by-value, seen, held, knowns, stays, rows, shared, Related, typed}
 use Rattle.walks.proofs.LentCalls.{lends-mut, lends-shr}
 use Rattle.walks.proofs.Locals.{env, holding, starts, frees-all, at}
-use Rattle.walks.proofs.Proved.{Done, proved}
+use Rattle.walks.proofs.Proved.{Finished, proved}
 use Rattle.walks.proofs.Slices.{lends-on}
-use Rattle.extent_table_steps.proofs.Extents.{value, tells, lawful, makes, told, order-value, makes-order, an-order}
+use Rattle.extent_table_steps.proofs.Extents.{extent-value, extent-tells, lawful, makes, extent-told, order-value, makes-order, an-order}
 use Rattle.extent_table_steps.proofs.fill as fill
 use Rattle.extent_table_steps.proofs.fill.Symbol as fill-def
 use Rattle.extent_table_steps.proofs.fill.Symbol.{name as #fill}
@@ -104,7 +104,7 @@ module _ (κs : Lfts 2) (a : Args self.signature κs) where
   -- ---- the calls that the code makes, where Z is what is wanted of the function's answer
   module _ {M : Type 1} (𝓤 : URA M) (H : Heap 𝓤) (C : Calls 𝓤 H) (Z : Val → SProp 𝓤) where
     abbrev Fits : SProp 𝓤
-    Fits = C #fit (tv ∷ vint w64 n ∷ vint w64 need ∷ []) (Yields 𝓤 H X.the-row (λ e. Z (value e)))
+    Fits = C #fit (tv ∷ vint w64 n ∷ vint w64 need ∷ []) (Yields 𝓤 H X.the-row (λ e. Z (extent-value e)))
 
     abbrev Fills : SProp 𝓤
     Fills = C #fill (tv ∷ fv ∷ order-value order ∷ vint w64 n ∷ []) (Yields 𝓤 H Nothing (λ _. Fits))
@@ -120,7 +120,7 @@ module _ (κs : Lfts 2) (a : Args self.signature κs) where
         calls-into ! fm 13 Nothing (λ _. vunit) nothing-tells (λ _. Fits 𝓤 H C Z)
         (and-then ! (at ! 17 refl) (and-then ! (at ! 5 refl) (and-then ! (at ! 7 refl) (and-then ! (at ! 9 refl) (no-more !))))) (λ _. refl) (λ _ _. (tt, tt)) (λ _ _.
         lends-on ! 3 19 21 refl refl refl refl refl refl (tt, tt) refl refl refl (tt, (tt, (record { fits = are .0 .0 .1 .0 }, tt))) $
-        calls-into ! fm 1 X.the-row value tells (λ e. Z (value e)) (and-then ! (at ! 21 refl) (and-then ! (at ! 9 refl) (and-then ! (at ! 11 refl) (no-more !))))
+        calls-into ! fm 1 X.the-row extent-value extent-tells (λ e. Z (extent-value e)) (and-then ! (at ! 21 refl) (and-then ! (at ! 9 refl) (and-then ! (at ! 11 refl) (no-more !))))
         (λ _. refl) (λ e is. lawful 𝓤 H A W .typed e _ is .0) (λ e is. returns ! (look ! 1 refl) $
         frees-all W ! (_ ∷ []) _ (holding (_ ∷ _ ∷ _ ∷ _ ∷ _ ∷ _ ∷ _ ∷ _ ∷ _ ∷ _ ∷ _ ∷ [])) (done !))))
 
@@ -129,7 +129,7 @@ module _ (κs : Lfts 2) (a : Args self.signature κs) where
       → Fun 𝓤) (qs : Shares 2) (are : Related κs (knowns params) a)
       (C : Calls 𝓤 H) (fm : FmC 𝓤 H (W .laws) C) (asked : (n ≤ length (now table)) × (0 < n → GridAccepted order (now file))) where
     abbrev Table : List Extent → Fml
-    Table = Holds X.the-row (named 0) (κs .0) (qs .0) table tv
+    Table = HasSlice X.the-row (named 0) (κs .0) (qs .0) table tv
 
     -- what the file owns, and the token of its lifetime
     abbrev File : Fml
@@ -139,7 +139,7 @@ module _ (κs : Lfts 2) (a : Args self.signature κs) where
     Token = ‵ (flft (κs .1 .0) (qs .1 .0)) ⊛ ‵ ftrue
 
     abbrev Post : Val → SProp 𝓤
-    Post = Done params (plain (λ _. X.the-row)) 𝓤 H A (self.clauses 𝓤 H A mem run) κs qs a tt
+    Post = Finished params (plain (λ _. X.the-row)) 𝓤 H A (self.clauses 𝓤 H A mem run) κs qs a tt
 
     filled : Triple 𝓤 (C #fill) (Filling 𝓤 H A mem run)
         → ent 𝓤 (⋆ 𝓤 H A (‵ (Table (now table)) ∷ raw (toks 𝓤 A 1 (κs .1) (qs .1)) ∷ raw (sem 𝓤 H A File) ∷ []))
@@ -161,15 +161,15 @@ module _ (κs : Lfts 2) (a : Args self.signature κs) where
 
     -- at the end: the extent e that is found, and the table zs
     exits : (e : Extent) (u : Val) (zs : List Extent) → Is X.the-row e (u ∷ []) → zs ≡ runsOver order (now file) n (now table) → e ≡ searched zs need n
-        → ent 𝓤 (⋆ 𝓤 H A (‵ (Table zs) ∷ Token ∷ [])) (Post (value e))
+        → ent 𝓤 (⋆ 𝓤 H A (‵ (Table zs) ∷ Token ∷ [])) (Post (extent-value e))
     exits e u zs ie eq found =
         qed W (‵ (Table zs) ∷ Token ∷ []) ∵ counts X.the-row (named 0) (κs .0) (qs .0) table tv ! zs (are .0) (λ len.
         -- [what the table owns; its token; the file's token]
-        suffices ! _ (ends-at 𝓤 H A self.ended (stays params) (self.clauses 𝓤 H A mem run) W ((κs, qs, tt, a, vals), tt) (value e) e
+        suffices ! _ (ends-at 𝓤 H A self.ended (stays params) (self.clauses 𝓤 H A mem run) W ((κs, qs, tt, a, vals), tt) (extent-value e) e
         (zs, (tt, (tt, (tt, (tt, tt))))) (len, (tt, (tt, (tt, (tt, tt)))))) $
         says ! (ap (λ (x : Extent). (x, zs)) found ∙ ap (λ (l : List Extent). (searched l need n, l)) eq) $
         move ! (1 ∷ 2 ∷ []) $ join ! $ frame ! $ nothing ! $ nothing ! $ fjoin ! $ nothing ! $ fjoin ! $ nothing ! $ fjoin ! $ nothing ! $ fjoin ! $
-        move ! (1 ∷ 0 ∷ []) $ fjoin ! $ frame ! $ owned ! X.the-row (Is X.the-row) (makes 𝓤 H A) e _ (told e u ie) $ done !)
+        move ! (1 ∷ 0 ∷ []) $ fjoin ! $ frame ! $ owned ! X.the-row (Is X.the-row) (makes 𝓤 H A) e _ (extent-told e u ie) $ done !)
 
     runs-through : Triple 𝓤 (C #fill) (Filling 𝓤 H A mem run) → Triple 𝓤 (C #fit) (Fitting 𝓤 H A mem run)
         → ent 𝓤 (onEntry 𝓤 H A self.signature κs qs a vals) (H .⇛ (Fills 𝓤 H C Post))
@@ -180,7 +180,7 @@ module _ (κs : Lfts 2) (a : Args self.signature κs) where
         use3 W (later (raw (C #fill _ _))) (filled known-fill) $ await ! tt $ at-once ! $ yields ! fm Nothing (λ _. Fits 𝓤 H C Post) (λ _ _ _.
         use1 W (some (λ (zs : List Extent). given (zs ≡ runsOver order (now file) n (now table)) (‵ (Table zs) ⊛ Token))) (id⊢ 𝓤 _) $
         pick ! (λ zs. learn ! (λ eq. split ! $ counts X.the-row (named 0) (κs .0) (qs .0) table tv ! zs (are .0) (λ len. fjoin ! $
-        use1 W (later (raw (C #fit _ _))) (fitted known-fit zs len) $ await ! tt $ at-once ! $ yields ! fm X.the-row (λ e. Post (value e)) (λ e u ie.
+        use1 W (later (raw (C #fit _ _))) (fitted known-fit zs len) $ await ! tt $ at-once ! $ yields ! fm X.the-row (λ e. Post (extent-value e)) (λ e u ie.
         use1 W (given (e ≡ searched zs need n) (‵ (Table zs))) (id⊢ 𝓤 _) $ learn ! (λ found. at-once ! $ by ! (exits e u zs ie eq found)))))))
 
 pub search-spec : {M : Type 1} → statement M

@@ -3,7 +3,7 @@
 use mathlib.Core.Path.{ap, _∙_}
 use denote.Ref.{now}
 use Rattle.span_rules.specs.Spans.{handed}
-use Rattle.grid_part_rules.proofs.Grids.{header-inside}
+use Rattle.grid_part_rules.proofs.Grids.{header-span-inside}
 use borrow.Author.Needs.{needs}
 use Rattle.grid_copies.proofs.header_bytes.Statement.{statement}
 use Rattle.grid_copies.proofs.header_bytes.Tie as tie
@@ -12,7 +12,7 @@ header-span-requires : tie.Need-header-span-requires
 header-span-requires c κs = search needs
 
 hand-back-requires : tie.Need-hand-back-requires
-hand-back-requires c κs = rw (c .header-span .ensures) (header-inside _ _)
+hand-back-requires c κs = rw (c .header-span .ensures) (header-span-inside _ _)
 
 returns : tie.Need-returns
 returns c = c .hand-back .ensures ∙ ap (handed (now (c .before .before .before .args .file))) (c .before .header-span .ensures)

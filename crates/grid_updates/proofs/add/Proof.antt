@@ -43,7 +43,7 @@ use Rattle.endian_rules.proofs.Order as O
 use Rattle.extent_rules.specs.Steps.{runsOver, searchedOver}
 use Rattle.extent_rules.specs.declared.Extent.{Extent}
 use Rattle.extent_rules.proofs.Extent as X
-use Rattle.extent_table_steps.proofs.Extents.{value, tells, lawful, makes, told, order-value, makes-order, an-order, an-extent}
+use Rattle.extent_table_steps.proofs.Extents.{extent-value, extent-tells, lawful, makes, extent-told, order-value, makes-order, an-order, an-extent}
 use Rattle.extent_table_steps.proofs.fill.Met as fill-met
 use Rattle.extent_table_steps.proofs.fill.Symbol as fill-def
 use Rattle.extent_table_steps.proofs.fill.Symbol.{name as #fill}
@@ -72,11 +72,11 @@ use Rattle.grid_update_steps.proofs.plan_add.Symbol as plans-def
 use Rattle.grid_update_steps.proofs.plan_add.Symbol.{name as #plans}
 use Rattle.walks.proofs.Calls.{at-value, Yields, yields, calls-into}
 use Rattle.walks.proofs.Contracts.{Contracted}
-use Rattle.walks.proofs.Held.{Holds, counts}
+use Rattle.walks.proofs.Held.{HasSlice, counts}
 use Rattle.walks.proofs.Known.{Parameter, shared, record-of, number, by-value, seen, held, knowns, stays, rows, Related, typed}
 use Rattle.walks.proofs.LentCalls.{lends-mut, lends-shr, lends-both}
 use Rattle.walks.proofs.Locals.{env, holding, starts, frees-all, at}
-use Rattle.walks.proofs.Proved.{Done, proved}
+use Rattle.walks.proofs.Proved.{Finished, proved}
 use Rattle.walks.proofs.Slices.{member, lends-on}
 use Rattle.grid_updates.proofs.Filling.{Filling, fills}
 use Rattle.grid_updates.proofs.add as self
@@ -179,7 +179,7 @@ module _ (κs : Lfts 4) (a : Args self.signature κs) where
     Fills d = C #fill (tv ∷ fv ∷ order-value order ∷ vint w64 (d .count) ∷ []) (Yields 𝓤 H Nothing (λ _. Z (answer (d .answer))))
 
     abbrev Adds : AddPlan → Extent → SProp 𝓤
-    Adds p e = C #adds (fv ∷ order-value order ∷ hv ∷ vint w32 in-rows ∷ vint w32 columns ∷ vv ∷ vint w64 size ∷ plan-value p ∷ value e ∷ [])
+    Adds p e = C #adds (fv ∷ order-value order ∷ hv ∷ vint w32 in-rows ∷ vint w32 columns ∷ vv ∷ vint w64 size ∷ plan-value p ∷ extent-value e ∷ [])
         (Yields 𝓤 H D.the-row Fills)
 
     abbrev Searches : AddPlan → SProp 𝓤
@@ -221,7 +221,7 @@ module _ (κs : Lfts 4) (a : Args self.signature κs) where
         (λ _. refl) (λ p is. LL.lawful P.the-type P′.the-laws 𝓤 H A W .typed p _ is .0) (λ p ip.
         lends-on ! 15 33 35 refl refl refl refl refl refl (tt, tt) refl refl refl (tt, (tt, (record { fits = table-fits are }, tt))) $
         lends-on ! 3 37 39 refl refl refl refl refl refl (tt, tt) refl refl refl (tt, (tt, (record { fits = file-fits are }, tt))) $
-        calls-into ! fm 19 X.the-row value tells (Adds 𝓤 H C Z p)
+        calls-into ! fm 19 X.the-row extent-value extent-tells (Adds 𝓤 H C Z p)
         (and-then ! (at ! 35 refl) (and-then ! (at ! 39 refl)
         (and-then ! (at ! 5 refl) (and-then ! (member ! 17 3 refl refl refl) (and-then ! (member ! 17 2 refl refl refl) (no-more !))))))
         (λ _. refl) (λ e is. lawful 𝓤 H A W .typed e _ is .0) (λ e ie.
@@ -246,10 +246,10 @@ module _ (κs : Lfts 4) (a : Args self.signature κs) where
       → Fun 𝓤) (qs : Shares 4) (are : Related κs (knowns params) a)
       (C : Calls 𝓤 H) (fm : FmC 𝓤 H (W .laws) C) where
     abbrev File : List ℕ → Fml
-    File = Holds u8 (named 0) (κs .0) (qs .0) file fv
+    File = HasSlice u8 (named 0) (κs .0) (qs .0) file fv
 
     abbrev Table : List Extent → Fml
-    Table = Holds X.the-row (named 3) (κs .1 .1 .1 .0) (qs .1 .1 .1 .0) table tv
+    Table = HasSlice X.the-row (named 3) (κs .1 .1 .1 .0) (qs .1 .1 .1 .0) table tv
 
     -- the lifetimes of the header and of the values, with their tokens, and what the two own
     abbrev κs′ : Lfts 2
@@ -268,7 +268,7 @@ module _ (κs : Lfts 4) (a : Args self.signature κs) where
     Values = ShrSlice (named 2) (κs .1 .1 .0) i32 .own values (vv ∷ [])
 
     abbrev Post : Val → SProp 𝓤
-    Post = Done params (plain (λ _. S.the-row)) 𝓤 H A (self.clauses 𝓤 H A mem runs) κs qs a tt
+    Post = Finished params (plain (λ _. S.the-row)) 𝓤 H A (self.clauses 𝓤 H A mem runs) κs qs a tt
 
     -- what the callees say: `plan_add` of its plan p, `search` of the extent e that it finds and of the table t that it leaves, and `add_at` of the addition d and of
     -- the file g that it leaves
@@ -307,16 +307,16 @@ module _ (κs : Lfts 4) (a : Args self.signature κs) where
         id⊢ 𝓤 _)
 
     added : Triple 𝓤 (C #adds) (Adding 𝓤 H A mem runs) → (p : AddPlan) (e : Extent) (t : List Extent) → Is P.the-row p (plan-value p ∷ [])
-        → Is X.the-row e (value e ∷ []) → Planned p → Found p e t
+        → Is X.the-row e (extent-value e ∷ []) → Planned p → Found p e t
         → ent 𝓤 (⋆ 𝓤 H A (‵ (File (now file)) ∷ raw (toks 𝓤 A 2 κs′ qs′) ∷ raw (sep 𝓤 (sem 𝓤 H A Header) (sem 𝓤 H A Values)) ∷ []))
-        (H .⇛ (C #adds (fv ∷ order-value order ∷ hv ∷ vint w32 in-rows ∷ vint w32 columns ∷ vv ∷ vint w64 size ∷ plan-value p ∷ value e ∷ [])
+        (H .⇛ (C #adds (fv ∷ order-value order ∷ hv ∷ vint w32 in-rows ∷ vint w32 columns ∷ vv ∷ vint w64 size ∷ plan-value p ∷ extent-value e ∷ [])
         (Yields 𝓤 H D.the-row (λ d. ex 𝓤 (λ (g : List ℕ). guard 𝓤 (Said d g) (sep 𝓤 (sem 𝓤 H A (File g)) (toks 𝓤 A 2 κs′ qs′)))))))
     added known p e t ip ie eq-p eq-t =
         lends-mut u8 (named 0) (κs .0) (qs .0) file fv 𝓤 H A W C fm (now file) 2 κs′ qs′
         (an-order .known ∷ shared 1 tt u8 ∷ number w32 .known ∷ number w32 .known ∷ shared 2 tt i32 ∷ number w64 .known ∷ record-of P.the-type P′.the-laws
         ∷ an-extent .known ∷ []) D.the-row (adds.clauses 𝓤 H A mem runs) (λ _. (order, (header, (in-rows, (columns, (values, (size, (p, (e, tt)))))))))
         #adds known
-        (order-value order ∷ hv ∷ vint w32 in-rows ∷ vint w32 columns ∷ vv ∷ vint w64 size ∷ plan-value p ∷ value e ∷ []) (λ _. refl)
+        (order-value order ∷ hv ∷ vint w32 in-rows ∷ vint w32 columns ∷ vv ∷ vint w64 size ∷ plan-value p ∷ extent-value e ∷ []) (λ _. refl)
         (sep 𝓤 (sem 𝓤 H A Header) (sem 𝓤 H A Values))
         (λ _. qed W ((‵ Header ⊛ ‵ Values) ∷ []) ∵ split ! $ nothing ! $ owned ! X.the-row (Is X.the-row) (makes 𝓤 H A) e _ ie $ fjoin ! $
         owned ! P.the-row (Is P.the-row) (LL.makes P.the-type P′.the-plain 𝓤 H A) p _ ip $ fjoin ! $
@@ -366,7 +366,7 @@ module _ (κs : Lfts 4) (a : Args self.signature κs) where
         use1 W (some (λ (t : List Extent). given (Found p e t) (‵ (Table t) ⊛ ‵ (File (now file))))) (id⊢ 𝓤 _) $ pick ! (λ t. learn ! (λ eq-t. split ! $
         counts X.the-row (named 3) (κs .1 .1 .1 .0) (qs .1 .1 .1 .0) table tv ! t (table-is are) (λ as-long. fjoin ! $ move ! (1 ∷ 2 ∷ 3 ∷ []) $
         -- [the file; the tokens; what the header and the values own; the table]
-        use3 W (later (raw (C #adds _ _))) (added known-adds p e t (plan-is p w ip) (told e x ie) eq-p eq-t) $ await ! tt $ at-once ! $
+        use3 W (later (raw (C #adds _ _))) (added known-adds p e t (plan-is p w ip) (extent-told e x ie) eq-p eq-t) $ await ! tt $ at-once ! $
         yields ! fm D.the-row (Fills 𝓤 H C Post) (λ d y is.
         use1 W (some (λ (g : List ℕ). given (Said d g) (‵ (File g) ⊛ Tokens))) (id⊢ 𝓤 _) $ pick ! (λ g. learn ! (λ eq. split ! $
         let may-fill = add-may-fill order (now file) (now header) in-rows columns (now values) (now table) d g eq in

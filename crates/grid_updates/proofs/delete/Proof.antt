@@ -58,11 +58,11 @@ use Rattle.grid_update_steps.proofs.delete_in.Symbol as deletes-def
 use Rattle.grid_update_steps.proofs.delete_in.Symbol.{name as #deletes}
 use Rattle.walks.proofs.Calls.{at-value, Yields, yields, calls-into}
 use Rattle.walks.proofs.Contracts.{Contracted}
-use Rattle.walks.proofs.Held.{Holds, counts}
+use Rattle.walks.proofs.Held.{HasSlice, counts}
 use Rattle.walks.proofs.Known.{Parameter, number, types-of, owned-values, by-value, held, knowns, stays, rows, Related, typed}
 use Rattle.walks.proofs.LentCalls.{lends-mut}
 use Rattle.walks.proofs.Locals.{env, holding, starts, frees-all, at}
-use Rattle.walks.proofs.Proved.{Done, proved}
+use Rattle.walks.proofs.Proved.{Finished, proved}
 use Rattle.walks.proofs.Slices.{member, lends-on}
 use Rattle.grid_updates.proofs.Filling.{Filling, fills}
 use Rattle.grid_updates.proofs.delete as self
@@ -149,13 +149,13 @@ module _ (κs : Lfts 2) (a : Args self.signature κs) where
       → Fun 𝓤) (qs : Shares 2) (are : Related κs (knowns params) a)
       (C : Calls 𝓤 H) (fm : FmC 𝓤 H (W .laws) C) where
     abbrev File : List ℕ → Fml
-    File = Holds u8 (named 0) (κs .0) (qs .0) file fv
+    File = HasSlice u8 (named 0) (κs .0) (qs .0) file fv
 
     abbrev Table : List Extent → Fml
-    Table = Holds X.the-row (named 1) (κs .1 .0) (qs .1 .0) table tv
+    Table = HasSlice X.the-row (named 1) (κs .1 .0) (qs .1 .0) table tv
 
     abbrev Post : Val → SProp 𝓤
-    Post = Done params (plain (λ _. S.the-row)) 𝓤 H A (self.clauses 𝓤 H A mem runs) κs qs a tt
+    Post = Finished params (plain (λ _. S.the-row)) 𝓤 H A (self.clauses 𝓤 H A mem runs) κs qs a tt
 
     -- what `delete_in` says of its result d and of the file g that it leaves
     abbrev Said : DeletionStep → List ℕ → Type 0

@@ -53,14 +53,14 @@ use Rattle.walks.proofs.Slices.{lends-on}
 use Rattle.grid_updates_by_value.proofs.Deletion as D
 use Rattle.grid_updates_by_value.proofs.Deletion.Laws as D′
 use Rattle.extent_table_steps.proofs.Extents.{lawful, an-order}
-use Rattle.grid_updates_by_value.proofs.Calls.{Handed, Call, Own, Callee, pair, Types, Landed, Lends, Left, Returns, lends-call}
-use Rattle.grid_updates_by_value.proofs.Lent.{places, room, none-is, fresh, fresh-val, fresh-is, τ, lent-at, typed as table-typed}
+use Rattle.grid_updates_by_value.proofs.Calls.{HandedBack, Call, Own, Callee, pair, Types, Landed, Lends, Left, Returns, lends-call}
+use Rattle.grid_updates_by_value.proofs.Lent.{places, room, none-is, fresh, fresh-val, fresh-is, τ, lent-at, table-typed}
 use Rattle.grid_updates_by_value.proofs.delete_with_table as self
 use Rattle.grid_updates_by_value.proofs.delete_with_table.Code as code
 use Rattle.grid_updates_by_value.proofs.delete_with_table.Key as key
 use Rattle.grid_updates_by_value.proofs.delete_with_table.Statement.{statement}
 
-abbrev handed : Handed
+abbrev handed : HandedBack
 handed = record {
   answer = S.the-row;
   both = D.the-row;

@@ -23,8 +23,8 @@ enum-known-refusal c = search needs
 enum-told : tie.Need-enum-told
 enum-told c = search needs
 
-layout-requires : tie.Need-layout-requires
-layout-requires c κs = search needs
+layout-of-words-requires : tie.Need-layout-of-words-requires
+layout-of-words-requires c κs = search needs
 
 returns-2 : tie.Need-returns-2
 unfolding openMd openMdWords
@@ -32,7 +32,7 @@ returns-2 c = rw (sym (c .before .before .before .md-verdict .ensures) ∙ c .be
 
 returns-3 : tie.Need-returns-3
 unfolding openMd openMdWords
-returns-3 c = rw (sym (c .before .before .before .md-verdict .ensures) ∙ c .before .enum-told .given .1) (ap gives (c .layout .ensures))
+returns-3 c = rw (sym (c .before .before .before .md-verdict .ensures) ∙ c .before .enum-told .given .1) (ap gives (c .layout-of-words .ensures))
 
 pub open-spec : {M : Type 1} → statement M
 open-spec =
@@ -42,6 +42,6 @@ open-spec =
     md-verdict-requires
     enum-known-refusal
     enum-told
-    layout-requires
+    layout-of-words-requires
     returns-2
     returns-3)

@@ -12,7 +12,7 @@ use types.Part.{agg}
 use types.Run.{look, init, stop, from, and-then, no-more, assigns, returns}
 use Rattle.walks.proofs.Known.{passed-as}
 use Rattle.walks.proofs.Locals.{holding, starts, frees-all, at}
-use Rattle.reader.proofs.Calls.{value}
+use Rattle.reader.proofs.Calls.{reader-value}
 use Rattle.reader.proofs.Making.{two, Shuts, shut}
 use Rattle.reader.proofs.new as self
 use Rattle.reader.proofs.new.Code as code
@@ -22,7 +22,7 @@ use Rattle.reader.proofs.new.Statement.{statement}
 module _ {M : Type 1} (𝓤 : URA M) (H : Heap 𝓤) (A : Atoms 𝓤) (W : Given 𝓤 H A) (C : Calls 𝓤 H) (Λ : Loops 𝓤 H) where
   walk : Shuts 𝓤 H A (WpFn 𝓤 H C Λ code.function)
   walk κs d ts K =
-      qed W (raw (K (value (κs .0) d)) ∷ []) ∵ starts W ! C Λ code.function (passed-as κs two (d .file, (d .layout, tt))) K (ts .1) (λ l.
+      qed W (raw (K (reader-value (κs .0) d)) ∷ []) ∵ starts W ! C Λ code.function (passed-as κs two (d .file, (d .layout, tt))) K (ts .1) (λ l.
       -- [what is to be had at the end; _0; …; _2; …]: local j stands at 1 + 2 · j
       assigns ! (agg ! (and-then ! (at ! 3 refl) (and-then ! (at ! 5 refl) (no-more !)))) (from ! (stop !)) (init ! 1 refl (ts .0)) $
       returns ! (look ! 1 refl) $ frees-all W ! (_ ∷ []) _ (holding (_ ∷ _ ∷ _ ∷ [])) (done !))

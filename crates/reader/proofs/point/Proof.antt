@@ -20,7 +20,7 @@ use Rattle.walks.proofs.Known.{Known, one-of, passed-as}
 use Rattle.walks.proofs.Locals.{holding, starts, frees-all, at}
 use Rattle.walks.proofs.Slices.{member}
 use Rattle.reader.proofs.Calls.{Opens, opened}
-use Rattle.reader.proofs.Known.{number, a-reader}
+use Rattle.reader.proofs.Known.{a-number, a-reader}
 use Rattle.reader.proofs.point as self
 use Rattle.reader.proofs.point.Code as code
 use Rattle.reader.proofs.point.Key as key
@@ -28,7 +28,7 @@ use Rattle.reader.proofs.point.Statement.{statement}
 
 -- row and column
 abbrev beside : List (Known 1)
-beside = number ∷ number ∷ []
+beside = a-number ∷ a-number ∷ []
 
 abbrev answer : Known 1
 answer = one-of Answer.the-type Answer′.the-laws tt

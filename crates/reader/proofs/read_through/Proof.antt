@@ -16,7 +16,7 @@ use Rattle.reads.proofs.read_sample as read_sample
 use Rattle.walks.proofs.Calls.{informs}
 use Rattle.walks.proofs.Known.{Known, one-of, passed-as}
 use Rattle.walks.proofs.Locals.{holding, starts, frees-all, at}
-use Rattle.reader.proofs.Known.{number, channel, bytes, layout}
+use Rattle.reader.proofs.Known.{a-number, channel, bytes, a-layout}
 use Rattle.reader.proofs.Making.{Passes, passed}
 use Rattle.reader.proofs.new.Met as new-met
 use Rattle.reader.proofs.new.Symbol as new-def
@@ -29,7 +29,7 @@ use Rattle.reader.proofs.read_through.Statement.{statement}
 
 -- line, element and channel
 abbrev beside : List (Known 1)
-beside = number ∷ number ∷ channel ∷ []
+beside = a-number ∷ a-number ∷ channel ∷ []
 
 abbrev answer : Known 1
 answer = one-of Answer.the-type Answer′.the-laws tt
@@ -37,7 +37,7 @@ answer = one-of Answer.the-type Answer′.the-laws tt
 module _ {M : Type 1} (𝓤 : URA M) (H : Heap 𝓤) (A : Atoms 𝓤) (W : Given 𝓤 H A) (C : Calls 𝓤 H) (Λ : Loops 𝓤 H) (fm : FmC 𝓤 H (W .laws) C) where
   walk : Passes 𝓤 H A beside answer (C new-def.name) (C sample-def.name) (WpFn 𝓤 H C Λ code.function)
   walk κs a ts K K₁ K′ goes-on says =
-      qed W (raw (C new-def.name _ K) ∷ []) ∵ starts W ! C Λ code.function (passed-as κs (bytes ∷ layout ∷ beside) a) K′ ts (λ l.
+      qed W (raw (C new-def.name _ K) ∷ []) ∵ starts W ! C Λ code.function (passed-as κs (bytes ∷ a-layout ∷ beside) a) K′ ts (λ l.
       -- [the call; _0; …; _6; …]: local j stands at 1 + 2 · j
       calls ! fm (λ w. raw (K w)) (and-then ! (at ! 3 refl) (and-then ! (at ! 5 refl) (no-more !))) (λ w. informs ! tt (goes-on w) (λ typed.
       land ! (from ! (stop !)) (init ! 13 refl (typed .0)) $

@@ -20,7 +20,7 @@ use Rattle.walks.proofs.Known.{Known, one-of, passed-as}
 use Rattle.walks.proofs.Locals.{holding, starts, frees-all, at}
 use Rattle.walks.proofs.Slices.{member}
 use Rattle.reader.proofs.Calls.{Opens, opened}
-use Rattle.reader.proofs.Known.{channel, number, a-reader}
+use Rattle.reader.proofs.Known.{channel, a-number, a-reader}
 use Rattle.reader.proofs.sample as self
 use Rattle.reader.proofs.sample.Code as code
 use Rattle.reader.proofs.sample.Key as key
@@ -28,7 +28,7 @@ use Rattle.reader.proofs.sample.Statement.{statement}
 
 -- line, element and channel
 abbrev beside : List (Known 1)
-beside = number ∷ number ∷ channel ∷ []
+beside = a-number ∷ a-number ∷ channel ∷ []
 
 abbrev answer : Known 1
 answer = one-of Answer.the-type Answer′.the-laws tt

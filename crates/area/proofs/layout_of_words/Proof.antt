@@ -1,10 +1,10 @@
--- `area::layout` meets its contract: each field is the entry of its word.
+-- `area::layout_of_words` meets its contract: each field is the entry of its word.
 -- Assumes nothing.
 use Rattle.area_rules.specs.Rules.{wordIn}
 use Rattle.area_rules.specs.Opening.{areaLayoutOf}
 use borrow.Author.Needs.{needs}
-use Rattle.area.proofs.layout.Statement.{statement}
-use Rattle.area.proofs.layout.Tie as tie
+use Rattle.area.proofs.layout_of_words.Statement.{statement}
+use Rattle.area.proofs.layout_of_words.Tie as tie
 
 element-copy-out-second-map : tie.Need-element-copy-out-second-map
 element-copy-out-second-map c = search needs
@@ -66,8 +66,8 @@ returns c =
     let start = c .before .before .before .before .before .before .before .before .before in
     rw (start .before .before .before .before .before .before .second-map .ensures)
 
-pub layout-spec : {M : Type 1} → statement M
-layout-spec =
+pub layout-of-words-spec : {M : Type 1} → statement M
+layout-of-words-spec =
     tie.close
     (tie.spec
     element-copy-out-second-map

@@ -1,9 +1,9 @@
--- `md::layout` meets its contract: every field is the word that the definition has.
+-- `md::layout_of_words` meets its contract: every field is the word that the definition has.
 -- Assumes nothing.
 use Rattle.md_rules.specs.Opening.{mdLayoutOf}
 use borrow.Author.Needs.{needs}
-use Rattle.md.proofs.layout.Statement.{statement}
-use Rattle.md.proofs.layout.Tie as tie
+use Rattle.md.proofs.layout_of_words.Statement.{statement}
+use Rattle.md.proofs.layout_of_words.Tie as tie
 
 read-word-requires : tie.Need-read-word-requires
 read-word-requires c κs = search needs
@@ -43,8 +43,8 @@ returns c =
       c .before .before .before .before .before .before .before .read-word .ensures,
     )
 
-pub layout-spec : {M : Type 1} → statement M
-layout-spec =
+pub layout-of-words-spec : {M : Type 1} → statement M
+layout-of-words-spec =
     tie.close
     (tie.spec
     read-word-requires
