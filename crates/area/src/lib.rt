@@ -133,46 +133,47 @@ fn flag_number(t: bool) -> u32
     if t { 1 } else { 0 }
 }
 
-// Whether two layouts are the same in their last six fields.
+// Whether two layouts are the same from the bytes of calibration (W50) on, their last six fields. What has been compared up to a field is named after it, here and
+// below.
 fn same_from_calibration(a: AreaLayout, b: AreaLayout) -> bool
     ensures { λ r. ⌜ r ≡ sameNumbers (drop 12 (areaNumbers a)) (drop 12 (areaNumbers b)) ⌝ }
 {
-    let t = equal_and(
+    let flags = equal_and(
         flag_number(a.no_validity_code),
         flag_number(b.no_validity_code),
         true,
     );
-    let t = equal_and(a.cards, b.cards, t);
-    let t = equal_and(a.cal, b.cal, t);
-    let t = equal_and(a.aux, b.aux, t);
-    let t = equal_and(a.band_list, b.band_list, t);
-    equal_and(a.calibration, b.calibration, t)
+    let cards = equal_and(a.cards, b.cards, flags);
+    let cal = equal_and(a.cal, b.cal, cards);
+    let aux = equal_and(a.aux, b.aux, cal);
+    let band_list = equal_and(a.band_list, b.band_list, aux);
+    equal_and(a.calibration, b.calibration, band_list)
 }
 
-// Whether two layouts are the same in their last twelve fields.
+// Whether two layouts are the same from the bytes of a line prefix (W15) on, their last twelve fields.
 fn same_from_prefix(a: AreaLayout, b: AreaLayout) -> bool
     ensures { λ r. ⌜ r ≡ sameNumbers (drop 6 (areaNumbers a)) (drop 6 (areaNumbers b)) ⌝ }
 {
-    let t = same_from_calibration(a, b);
-    let t = equal_and(a.documentation, b.documentation, t);
-    let t = equal_and(a.nav, b.nav, t);
-    let t = equal_and(a.data_start, b.data_start, t);
-    let t = equal_and(a.map2, b.map2, t);
-    let t = equal_and(a.map, b.map, t);
-    equal_and(a.prefix, b.prefix, t)
+    let calibration = same_from_calibration(a, b);
+    let documentation = equal_and(a.documentation, b.documentation, calibration);
+    let nav = equal_and(a.nav, b.nav, documentation);
+    let data_start = equal_and(a.data_start, b.data_start, nav);
+    let map2 = equal_and(a.map2, b.map2, data_start);
+    let map = equal_and(a.map, b.map, map2);
+    equal_and(a.prefix, b.prefix, map)
 }
 
-// Whether two layouts are the same in every field.
+// Whether two AREA layouts are the same in every field.
 pub fn same_area(a: AreaLayout, b: AreaLayout) -> bool
     ensures { λ r. ⌜ r ≡ sameArea a b ⌝ }
 {
     let a_order = a.order;
     let b_order = b.order;
-    let t = same_from_prefix(a, b);
-    let t = equal_and(a.bands, b.bands, t);
-    let t = equal_and(a.width, b.width, t);
-    let t = equal_and(a.elements, b.elements, t);
-    let t = equal_and(a.lines, b.lines, t);
-    let t = and(a.length == b.length, t);
-    equal_and(order_number(a_order), order_number(b_order), t)
+    let prefix = same_from_prefix(a, b);
+    let bands = equal_and(a.bands, b.bands, prefix);
+    let width = equal_and(a.width, b.width, bands);
+    let elements = equal_and(a.elements, b.elements, width);
+    let lines = equal_and(a.lines, b.lines, elements);
+    let length = and(a.length == b.length, lines);
+    equal_and(order_number(a_order), order_number(b_order), length)
 }

@@ -1,4 +1,4 @@
-// The blocks of an AREA file.
+// The blocks of an AREA file: where each lies, and its bytes handed back.
 use area_places::line_start;
 use area_rules::AreaLayout;
 use area_rules::AreaOpening;
@@ -18,7 +18,7 @@ ghost use Rattle.area_rules.specs.Samples.{AreaFits};
 ghost use Rattle.span_rules.specs.Spans.{spanSays, handed};
 ghost use Rattle.area_part_rules.specs.Blocks.{optionalBlockOf, blockOf, blockSpan};
 
-// The start s where it is greater than x and before n, else n.
+// The start s where it is greater than x and before n, else n: one step of the search for the next greater start.
 fn nearer_start(x: u32, s: u32, n: usize) -> usize
     ensures { λ r. ⌜ r ≡ nearerStart x s n ⌝ }
 {

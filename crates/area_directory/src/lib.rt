@@ -36,19 +36,19 @@ fn is_width(n: u32) -> bool
     or(n == 1, or(n == 2, n == 4))
 }
 
-// What the counts say.
+// What the rules of the counts say. The verdict up to the rule of a word is named after it, here and below.
 fn count_verdict(words: &[u32; 64]) -> Verdict
     ensures { λ r. ⌜ r ≡ firstFault (areaCountRules (wordIn (now (words .entry)))) ⌝ }
 {
-    let a = count(Verdict::Pass, words, 9, 1, 65535);
-    let b = count(a, words, 10, 1, 65535);
-    let c = check(b, is_width(words[10]), COUNT_OUT_OF_BOUNDS, 11);
-    let d = count(c, words, 14, 1, 64);
-    let e = count(d, words, 49, 0, 65535);
-    let f = count(e, words, 50, 0, 65535);
-    let g = count(f, words, 51, 0, 65535);
-    let h = count(g, words, 61, 0, 65535);
-    count(h, words, 64, 0, 65535)
+    let to_9 = count(Verdict::Pass, words, 9, 1, 65535);
+    let to_10 = count(to_9, words, 10, 1, 65535);
+    let to_11 = check(to_10, is_width(words[10]), COUNT_OUT_OF_BOUNDS, 11);
+    let to_14 = count(to_11, words, 14, 1, 64);
+    let to_49 = count(to_14, words, 49, 0, 65535);
+    let to_50 = count(to_49, words, 50, 0, 65535);
+    let to_51 = count(to_50, words, 51, 0, 65535);
+    let to_61 = count(to_51, words, 61, 0, 65535);
+    count(to_61, words, 64, 0, 65535)
 }
 
 // The prefix length that the words give, which W15 has to be, where the counts passed.
@@ -97,12 +97,12 @@ fn shape_verdict(words: &[u32; 64]) -> Verdict
     requires { ⌜ firstFault (areaCountRules (wordIn (now words))) ≡ Verdict.Pass ⌝ }
     ensures { λ r. ⌜ r ≡ firstFault (areaShapeRules (wordIn (now (words .entry)))) ⌝ }
 {
-    let a = check(Verdict::Pass, words[48] % 4 == 0, RULE_BROKEN, 49);
-    let b = check(a, words[49] % 4 == 0, RULE_BROKEN, 50);
-    let c = check(b, words[50] % 4 == 0, RULE_BROKEN, 51);
-    let d = check(c, words[14] == prefix_length_of(words), RULE_BROKEN, 15);
-    let e = check(d, line_length_of(words) % 4 == 0, RULE_BROKEN, 10);
-    check(e, or(words[59] != 0, words[60] == 0), RULE_BROKEN, 61)
+    let to_49 = check(Verdict::Pass, words[48] % 4 == 0, RULE_BROKEN, 49);
+    let to_50 = check(to_49, words[49] % 4 == 0, RULE_BROKEN, 50);
+    let to_51 = check(to_50, words[50] % 4 == 0, RULE_BROKEN, 51);
+    let to_15 = check(to_51, words[14] == prefix_length_of(words), RULE_BROKEN, 15);
+    let to_10 = check(to_15, line_length_of(words) % 4 == 0, RULE_BROKEN, 10);
+    check(to_10, or(words[59] != 0, words[60] == 0), RULE_BROKEN, 61)
 }
 
 // Whether a block may start at x, in a file of `told` bytes with DATA and AUDIT from `start` to `end`. `after` is whether x, as a signed word, is at
@@ -126,14 +126,14 @@ fn place_verdict(told: usize, words: &[u32; 64]) -> Verdict
     let cal = words[62];
     let aux = words[59];
     let inside = and(at_least(256, start), end <= told);
-    let a = check(Verdict::Pass, inside, MISPLACED, 34);
+    let to_34 = check(Verdict::Pass, inside, MISPLACED, 34);
     let nav_fits = block_start_fits(told, start, end, nav, at_least(256, nav), true);
-    let b = check(a, nav_fits, MISPLACED, 35);
+    let to_35 = check(to_34, nav_fits, MISPLACED, 35);
     let cal_fits = block_start_fits(told, start, end, cal, at_least(256, cal), cal != nav);
-    let c = check(b, cal_fits, MISPLACED, 63);
+    let to_63 = check(to_35, cal_fits, MISPLACED, 63);
     let unequal = and(aux != nav, aux != cal);
     let aux_fits = block_start_fits(told, start, end, aux, at_least(256, aux), unequal);
-    check(c, aux_fits, MISPLACED, 60)
+    check(to_63, aux_fits, MISPLACED, 60)
 }
 
 // What the rules of counts and of the words that follow from them say of a directory's 64 words: 3 and 4 with document 01's places. These rules

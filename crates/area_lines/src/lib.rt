@@ -28,19 +28,19 @@ pub fn band_slot(file: &[u8], layout: Layout, band: u32) -> NumberAnswer
     }
 }
 
-// Copies one channel of one line of an accepted file.
-fn copy_channel(
+// Copies one slot or band of one line of an accepted file.
+fn copy_line_in(
     file: &[u8],
     l: AreaLayout,
     line: u32,
-    channel: SlotOrBand,
+    which: SlotOrBand,
     out: &mut [u32],
 ) -> SizeAnswer
     requires { ⌜ AreaOf (now file) l ⌝ }
-    ensures { λ r. ⌜ (sizeSays r, now (out .exit)) ≡ copied (lineIn (now (file .entry)) l line channel) (now (out .entry)) ⌝ }
+    ensures { λ r. ⌜ (sizeSays r, now (out .exit)) ≡ copied (lineIn (now (file .entry)) l line which) (now (out .entry)) ⌝ }
 {
     let order = l.order;
-    match sample_place(l, line, 0, channel) {
+    match sample_place(l, line, 0, which) {
         PlaceAnswer::Refused(refusal) => SizeAnswer::Refused(refusal),
         PlaceAnswer::At(place) => {
             let run = Strided {
@@ -60,13 +60,13 @@ pub fn copy_line(
     file: &[u8],
     layout: Layout,
     line: u32,
-    channel: SlotOrBand,
+    which: SlotOrBand,
     out: &mut [u32],
 ) -> SizeAnswer
-    ensures { λ r. ⌜ (sizeSays r, now (out .exit)) ≡ copyLine (now (file .entry)) layout line channel (now (out .entry)) ⌝ }
+    ensures { λ r. ⌜ (sizeSays r, now (out .exit)) ≡ copyLine (now (file .entry)) layout line which (now (out .entry)) ⌝ }
 {
     match area_of(file, layout) {
         AreaOpening::Refused(refusal) => SizeAnswer::Refused(refusal),
-        AreaOpening::Opened(l) => copy_channel(file, l, line, channel, out),
+        AreaOpening::Opened(l) => copy_line_in(file, l, line, which, out),
     }
 }

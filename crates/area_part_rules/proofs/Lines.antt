@@ -1,4 +1,4 @@
--- One channel of one line. Its samples are equally far apart, so they are a run that begins at the place of element 0; the refusals of that place are those of
+-- One slot or band of one line. Its samples are equally far apart, so they are a run that begins at the place of element 0; the refusals of that place are those of
 -- the line.
 -- Assumes nothing.
 use mathlib.Core.Path.{_≡_, refl, sym, subst, _∙_}
@@ -77,16 +77,16 @@ line-from f l fits i c = step (slotOf l c)
         ∙ (λ t. answered (rules t) (line-run f l i s t))
 
 -- the run is inside the file
-pub line-inside : (f : List ℕ) (l : AreaLayout) → AreaOf f l → (i : ℕ) (c : SlotOrBand) (p : Place) → samplePlace l i 0 c ≡ gives p
+pub line-samples-inside : (f : List ℕ) (l : AreaLayout) → AreaOf f l → (i : ℕ) (c : SlotOrBand) (p : Place) → samplePlace l i 0 c ≡ gives p
     → (p .width ≤ 4) × ((e : ℕ) → e < l .elements → p .address + e * (l .bands * l .width) + p .width ≤ length f)
-line-inside f l of i c p given =
+line-samples-inside f l of i c p given =
     let (s, slot, (is, same)) = sample-place l (of .fits) i 0 c p .0 given in
     subst (λ (q : Place). (q .width ≤ 4) × ((e : ℕ) → e < l .elements → q .address + e * (l .bands * l .width) + q .width ≤ length f)) (sym same)
     (width-to l (of .fits), λ e lt. omega (arith, of .size, sample-along l i e s, sample-inside l (of .fits) i e s (record { line = is .line; element = lt; slot = is .slot })))
 
 -- ---- a line of a file
 
--- a line of a file: the layout is an AREA layout that opening the file gives, the channel means a slot, there is such a line, and the samples are those of
+-- a line of a file: the layout is an AREA layout that opening the file gives, the slot or band means a slot, there is such a line, and the samples are those of
 -- the slot
 pub record LineOf (f : List ℕ) (l : Layout) (i : ℕ) (c : SlotOrBand) (xs : List ℕ) : Type 0 where
   pub area : AreaLayout

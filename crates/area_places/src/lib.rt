@@ -27,7 +27,7 @@ fn area_bounded(l: AreaLayout) -> bool
     and(l.lines <= 65535, and(l.elements <= 65535, samples))
 }
 
-// The bytes of a line.
+// The line length, in bytes.
 fn line_length_in(l: AreaLayout) -> usize
     requires { ⌜ AreaBounds l ⌝ }
     ensures { λ r. ⌜ r ≡ lineLengthIn l ⌝ }
@@ -35,7 +35,7 @@ fn line_length_in(l: AreaLayout) -> usize
     l.prefix as usize + l.bands as usize * l.elements as usize * l.width as usize
 }
 
-// Where line i begins.
+// The byte at which a line begins, with its prefix.
 fn line_at(l: AreaLayout, line: u32) -> usize
     requires { ⌜ AreaBounds l × (line ≤ l .lines) ⌝ }
     ensures { λ r. ⌜ r ≡ lineStart l line ⌝ }
@@ -55,7 +55,7 @@ pub fn line_start(l: AreaLayout, line: u32) -> SizeAnswer
     }
 }
 
-// Where the sample of a line, an element and a slot lies.
+// The byte at which the sample of a line, an element and a slot begins.
 fn sample_address(l: AreaLayout, line: u32, element: u32, slot: u32) -> usize
     requires { ⌜ AreaBounds l × ((line ≤ l .lines) × ((element ≤ l .elements) × (slot ≤ l .bands))) ⌝ }
     ensures { λ r. ⌜ r ≡ sampleAddress l line element slot ⌝ }
@@ -64,7 +64,7 @@ fn sample_address(l: AreaLayout, line: u32, element: u32, slot: u32) -> usize
     line_at(l, line) + l.prefix as usize + before * l.width as usize
 }
 
-// Whether there is such a line and element.
+// What the rules of a sample of a line and an element say: 7 where there is no such line or element.
 fn sample_verdict(l: AreaLayout, line: u32, element: u32) -> Verdict
     ensures { λ r. ⌜ r ≡ firstFault (sampleRules l line element) ⌝ }
 {
@@ -73,12 +73,12 @@ fn sample_verdict(l: AreaLayout, line: u32, element: u32) -> Verdict
     check(lines, element < l.elements, NO_SUCH, 0)
 }
 
-// The place of a sample of an AREA file, named by line and element, both counted from 0, and channel. Refused with 4 at 19 where a band is named and the band
+// The place of a sample of an AREA file, named by line and element, both counted from 0, and slot or band. Refused with 4 at 19 where a band is named and the band
 // map is unusable, then with 7 where there is no such line, element, slot or band, or the layout is above the bounds that opening sets.
-pub fn sample_place(l: AreaLayout, line: u32, element: u32, channel: SlotOrBand) -> PlaceAnswer
-    ensures { λ r. ⌜ placeSays r ≡ samplePlace l line element channel ⌝ }
+pub fn sample_place(l: AreaLayout, line: u32, element: u32, which: SlotOrBand) -> PlaceAnswer
+    ensures { λ r. ⌜ placeSays r ≡ samplePlace l line element which ⌝ }
 {
-    match slot_of(l, channel) {
+    match slot_of(l, which) {
         NumberAnswer::Refused(refusal) => PlaceAnswer::Refused(refusal),
         NumberAnswer::Value(slot) => match sample_verdict(l, line, element) {
             Verdict::Fault(refusal) => PlaceAnswer::Refused(refusal),

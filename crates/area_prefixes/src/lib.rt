@@ -1,4 +1,4 @@
-// The prefix of a line of an AREA file: its regions.
+// The regions of a line prefix of an AREA file: where each lies, and its bytes handed back.
 use area_places::line_start;
 use area_rules::AreaLayout;
 use area_rules::AreaOpening;
@@ -19,7 +19,7 @@ ghost use Rattle.area_rules.specs.Samples.{AreaFits};
 ghost use Rattle.span_rules.specs.Spans.{spanSays, handed};
 ghost use Rattle.area_part_rules.specs.Regions.{regionOf, regionSpan};
 
-// The bytes of a region of a line prefix.
+// How many bytes a region of a line prefix has.
 fn region_length(l: AreaLayout, region: Region) -> usize
     ensures { λ r. ⌜ r ≡ regionLength l region ⌝ }
 {
@@ -31,7 +31,7 @@ fn region_length(l: AreaLayout, region: Region) -> usize
     }
 }
 
-// The bytes of the regions before one.
+// How many bytes the regions before a region have.
 fn region_offset(l: AreaLayout, region: Region) -> usize
     ensures { λ r. ⌜ r ≡ regionOffset l region ⌝ }
 {

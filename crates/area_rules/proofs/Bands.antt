@@ -99,7 +99,7 @@ slot-itself l s t =
     let x = value-exactly (rule (ltb s (l .bands)) 7 0 ∷ []) s t in
     (λ e. let (hold, same) = x .0 e in (ltb-true s (l .bands) (hold .0), same), λ h. x .1 ((lt-ltb s (l .bands) (h .0), tt), h .1))
 
--- what a channel means is one of the slots of an element
+-- what a slot or band means is one of the slots of an element
 pub named-slot-inside : (l : AreaLayout) (c : SlotOrBand) (s : ℕ) → slotOf l c ≡ gives s → s < l .bands
 named-slot-inside l (Slot t) s e = omega (arith, slot-itself l t s .0 e .0, slot-itself l t s .0 e .1)
 named-slot-inside l (Band b) s e = band-inside (l .map) (l .map2) (l .bands) b s e

@@ -24,7 +24,7 @@ module _ (l : AreaLayout) (fits : AreaFits l) where
       value-exactly (lineRules l i) (lineStart l i) (lineStart l i) .1
       (lines-hold l i .1 (area-bounds l .sound (area-bounded l fits), h), refl)
 
-  -- a sample has a place exactly where its channel means a slot and there is such a sample, and then at W34 + l·(line length) + W15 + (e·W14 + s)·W11
+  -- a sample has a place exactly where its slot or band means a slot and there is such a sample, and then at W34 + l·(line length) + W15 + (e·W14 + s)·W11
   pub sample-place : (i e : ℕ) (c : SlotOrBand) (p : Place)
       → (samplePlace l i e c ≡ gives p) ↔ ((s : ℕ) × (slotOf l c ≡ gives s) × (IsSample l i e s × (p ≡ place (sampleAddress l i e s) (l .width))))
   unfolding samplePlace

@@ -61,12 +61,12 @@ fn slot_of_band(map: u32, map2: u32, bands: u32, band: u32) -> NumberAnswer
     }
 }
 
-// The slot that a channel of a layout means. Refused with 4 at 19 where a band is named and the band map is unusable, and with 7 where there is no such
+// The slot that a slot or band of a layout means. Refused with 4 at 19 where a band is named and the band map is unusable, and with 7 where there is no such
 // slot or band.
-pub fn slot_of(layout: AreaLayout, channel: SlotOrBand) -> NumberAnswer
-    ensures { λ r. ⌜ numberSays r ≡ slotOf layout channel ⌝ }
+pub fn slot_of(layout: AreaLayout, which: SlotOrBand) -> NumberAnswer
+    ensures { λ r. ⌜ numberSays r ≡ slotOf layout which ⌝ }
 {
-    match channel {
+    match which {
         SlotOrBand::Slot(slot) => match check(Verdict::Pass, slot < layout.bands, NO_SUCH, 0) {
             Verdict::Fault(refusal) => NumberAnswer::Refused(refusal),
             Verdict::Pass => NumberAnswer::Value(slot),

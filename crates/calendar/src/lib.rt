@@ -134,9 +134,9 @@ fn time_of_number(n: u32) -> TimeAnswer
     let hours = n / 10000;
     let minutes = n / 100 % 100;
     let seconds = n % 100;
-    let a = check(Verdict::Pass, hours <= 23, NO_DATE, 0);
-    let b = check(a, minutes <= 59, NO_DATE, 0);
-    match check(b, seconds <= 59, NO_DATE, 0) {
+    let to_hours = check(Verdict::Pass, hours <= 23, NO_DATE, 0);
+    let to_minutes = check(to_hours, minutes <= 59, NO_DATE, 0);
+    match check(to_minutes, seconds <= 59, NO_DATE, 0) {
         Verdict::Pass => TimeAnswer::At(TimeOfDay {
             hours: hours,
             minutes: minutes,

@@ -1,6 +1,6 @@
 // A lent table of the free stretches of a GRID file, each with its start and its length: it is filled from the file, and searched first fit.
 //
-// A table is a lent slice of structs, of which a proof is written out step by step. What is computed is computed in `extents`, by value.
+// A table is a lent slice of structs, of which a proof is written out step by step. What is computed is computed by value, in extent_steps.
 use endian_rules::Order;
 use extent_rules::Extent;
 use extent_steps::directory_extent;

@@ -23,7 +23,7 @@ ghost use Rattle.grid_rules.specs.Opening.{sameGrid, gridSays, openGrid};
 ghost use Rattle.grid_rules.specs.Rules.{shares, slotsRules, slotRules, gridFileRules};
 ghost use Rattle.grid_rules.specs.Accepts.{GridRoom};
 
-// Whether two layouts are the same in every field.
+// Whether two GRID layouts are the same in every field. What has been compared up to a field is named after it.
 pub fn same_grid(a: GridLayout, b: GridLayout) -> bool
     ensures { λ r. ⌜ r ≡ sameGrid a b ⌝ }
 {
@@ -38,7 +38,7 @@ pub fn same_grid(a: GridLayout, b: GridLayout) -> bool
 }
 
 // Whether one of the first k slots has a word from `low` up to `high`. Their checks must have passed.
-fn shared(
+fn shares_word(
     file: &[u8],
     order: Order,
     n: usize,
@@ -74,7 +74,7 @@ fn slot_verdict(file: &[u8], order: Order, n: usize, next: usize, k: usize) -> V
         Verdict::Pass => {
             let low = word as usize;
             let high = low + 64 + read_word(order, file, low) as usize;
-            let overlaps = shared(file, order, n, next, k, low, high);
+            let overlaps = shares_word(file, order, n, next, k, low, high);
             check(Verdict::Pass, !overlaps, MISPLACED, 11 + k)
         }
     }

@@ -1,4 +1,4 @@
-// The parts of a GRID file: the header of a grid, and a whole grid copied by columns or by rows.
+// The header of a grid handed back, and a whole grid copied by columns or by rows into a lent output.
 use copy_rules::WordLines;
 use fresh_layout::grid_of;
 use grid_rules::GridLayout;

@@ -15,7 +15,7 @@ ghost use Rattle.grid_rules.specs.Places.{pointRules, pointPlace};
 ghost use Rattle.grid_rules.specs.Points.{pointWord, IsPoint};
 ghost use Rattle.grid_rules.specs.Bounds.{GridBounds};
 
-// Whether there is such a point.
+// What the rules of a point of a row and a column say: 7 where there is no such row or column.
 fn point_verdict(l: GridLayout, row: u32, column: u32) -> Verdict
     ensures { λ r. ⌜ r ≡ firstFault (pointRules l row column) ⌝ }
 {
@@ -25,7 +25,7 @@ fn point_verdict(l: GridLayout, row: u32, column: u32) -> Verdict
     check(rows, within(1, l.columns, column), NO_SUCH, 0)
 }
 
-// The word of a point.
+// The word of the point of a row and a column.
 fn point_word(l: GridLayout, row: u32, column: u32) -> usize
     requires { ⌜ GridBounds l × IsPoint l row column ⌝ }
     ensures { λ r. ⌜ r ≡ pointWord l row column ⌝ }

@@ -60,7 +60,7 @@ pub fn order_of(layout: Layout) -> Order
     }
 }
 
-// Whether an AREA opening gave a layout.
+// Whether what opening an AREA file answered is a layout, and this one.
 fn is_area(opening: AreaOpening, layout: AreaLayout) -> bool
     ensures { λ r. ⌜ r ≡ givesThat (Layout.Area layout) (mapped Layout.Area (areaSays opening)) ⌝ }
 {
@@ -70,7 +70,7 @@ fn is_area(opening: AreaOpening, layout: AreaLayout) -> bool
     }
 }
 
-// Whether a GRID opening gave a layout.
+// Whether what opening a GRID file answered is a layout, and this one.
 fn is_grid(opening: GridOpening, layout: GridLayout) -> bool
     ensures { λ r. ⌜ r ≡ givesThat (Layout.Grid layout) (mapped Layout.Grid (gridSays opening)) ⌝ }
 {
@@ -80,7 +80,7 @@ fn is_grid(opening: GridOpening, layout: GridLayout) -> bool
     }
 }
 
-// Whether an MD opening gave a layout.
+// Whether what opening an MD file answered is a layout, and this one.
 fn is_md(opening: MdOpening, layout: MdLayout) -> bool
     ensures { λ r. ⌜ r ≡ givesThat (Layout.Md layout) (mapped Layout.Md (mdSays opening)) ⌝ }
 {

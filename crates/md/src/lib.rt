@@ -23,7 +23,7 @@ ghost use Rattle.refusal_rules.specs.Rules.{judge, first, firstFault};
 ghost use Rattle.md_rules.specs.Rules.{mdCount, mdEqual, mdCountRules, mdSumRules, mdFixedRules, mdEndRules, mdRules};
 ghost use Rattle.md_rules.specs.Opening.{mdLayoutOf, mdSays, openMd, sameMd};
 
-// The rule of a count, after a verdict: word k is from `low` to `high`.
+// One rule more, after a verdict: that word k is a count from `low` to `high`.
 fn count(verdict: Verdict, file: &[u8], order: Order, k: usize, low: u32, high: u32) -> Verdict
     requires { ⌜ 4 * k + 4 ≤ length (now file) ⌝ }
     ensures { λ r. ⌜ r ≡ first verdict (judge (mdCount (wordAt order (now (file .entry))) k low high)) ⌝ }
@@ -32,7 +32,7 @@ fn count(verdict: Verdict, file: &[u8], order: Order, k: usize, low: u32, high: 
     check(verdict, holds, COUNT_OUT_OF_BOUNDS, k)
 }
 
-// The rule of a word that must be n, after a verdict.
+// One rule more, after a verdict: that word k is n.
 fn equal(verdict: Verdict, file: &[u8], order: Order, k: usize, n: usize) -> Verdict
     requires { ⌜ 4 * k + 4 ≤ length (now file) ⌝ }
     ensures { λ r. ⌜ r ≡ first verdict (judge (mdEqual (wordAt order (now (file .entry))) k n)) ⌝ }
@@ -41,7 +41,7 @@ fn equal(verdict: Verdict, file: &[u8], order: Order, k: usize, n: usize) -> Ver
     check(verdict, holds, RULE_BROKEN, k)
 }
 
-// The rules of the counts. The verdict up to the rule of a word is named after it.
+// What the rules of the counts say. The verdict up to the rule of a word is named after it.
 fn count_verdict(file: &[u8], order: Order) -> Verdict
     requires { ⌜ 16384 ≤ length (now file) ⌝ }
     ensures { λ r. ⌜ r ≡ firstFault (mdCountRules (wordAt order (now (file .entry)))) ⌝ }
@@ -54,7 +54,7 @@ fn count_verdict(file: &[u8], order: Order) -> Verdict
     count(to_7, file, order, 8, 1, 400)
 }
 
-// The rules of the words that follow from the counts, where the counts are within their bounds.
+// What the rules of the words that follow from the counts say, where the counts are within their bounds.
 fn sum_verdict(file: &[u8], order: Order) -> Verdict
     requires { ⌜ (16384 ≤ length (now file)) × (firstFault (mdCountRules (wordAt order (now file))) ≡ Verdict.Pass) ⌝ }
     ensures { λ r. ⌜ r ≡ firstFault (mdSumRules (wordAt order (now (file .entry)))) ⌝ }
@@ -74,7 +74,7 @@ fn sum_verdict(file: &[u8], order: Order) -> Verdict
     equal(to_28, file, order, 29, column_start + columns * column_keys)
 }
 
-// The rules of the words that are the same in every file, after a verdict.
+// What the rules of the words that are the same in every file say, after a verdict.
 fn fixed_verdict(verdict: Verdict, file: &[u8], order: Order) -> Verdict
     requires { ⌜ 16384 ≤ length (now file) ⌝ }
     ensures { λ r. ⌜ r ≡ first verdict (firstFault (mdFixedRules (wordAt order (now (file .entry))))) ⌝ }
@@ -85,7 +85,7 @@ fn fixed_verdict(verdict: Verdict, file: &[u8], order: Order) -> Verdict
     equal(to_33, file, order, 34, 1264)
 }
 
-// The rules of word 30, after a verdict, where the counts are within their bounds.
+// What the rules of word 30 say, after a verdict, where the counts are within their bounds.
 fn end_verdict(verdict: Verdict, file: &[u8], order: Order) -> Verdict
     requires { ⌜ (16384 ≤ length (now file)) × (firstFault (mdCountRules (wordAt order (now file))) ≡ Verdict.Pass) ⌝ }
     ensures { λ r. ⌜ r ≡ first verdict (firstFault (mdEndRules (length (now (file .entry))) (wordAt order (now (file .entry))))) ⌝ }
@@ -101,7 +101,7 @@ fn end_verdict(verdict: Verdict, file: &[u8], order: Order) -> Verdict
     check(check(verdict, past, RULE_BROKEN, 30), inside, MISPLACED, 30)
 }
 
-// What all rules say of a file that is long enough.
+// What all rules of opening say of a file that has at least 16,384 bytes.
 fn md_verdict(file: &[u8], order: Order) -> Verdict
     requires { ⌜ 16384 ≤ length (now file) ⌝ }
     ensures { λ r. ⌜ r ≡ firstFault (mdRules (length (now (file .entry))) (wordAt order (now (file .entry)))) ⌝ }
@@ -152,7 +152,7 @@ pub fn open(file: &[u8], order: Order) -> MdOpening
     }
 }
 
-// Whether two layouts are the same in every field.
+// Whether two MD layouts are the same in every field. What has been compared up to a field is named after it.
 pub fn same_md(a: MdLayout, b: MdLayout) -> bool
     ensures { λ r. ⌜ r ≡ sameMd a b ⌝ }
 {

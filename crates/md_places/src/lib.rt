@@ -44,7 +44,7 @@ fn part_word(l: MdLayout, row: u32, column: u32) -> usize
     l.data_start as usize + before * l.data_keys as usize
 }
 
-// Whether there is such a row and column.
+// What the rules of the part that coordinates name say: 7 where there is no such row or column.
 fn part_verdict(l: MdLayout, row: u32, column: u32) -> Verdict
     ensures { λ r. ⌜ r ≡ firstFault (partRules l row column) ⌝ }
 {
@@ -64,7 +64,7 @@ pub fn part_start(l: MdLayout, row: u32, column: u32) -> SizeAnswer
     }
 }
 
-// How many fields the part that coordinates name has.
+// How many fields the part of an MD file has that coordinates name.
 fn fields_of(l: MdLayout, row: u32, column: u32) -> u32
     ensures { λ r. ⌜ r ≡ fieldsOf l row column ⌝ }
 {
@@ -75,7 +75,7 @@ fn fields_of(l: MdLayout, row: u32, column: u32) -> u32
     }
 }
 
-// Whether there is such a field.
+// What the rules of a field of the part that coordinates name say: 7 where there is no such row, column or field.
 fn field_verdict(l: MdLayout, row: u32, column: u32, position: u32) -> Verdict
     ensures { λ r. ⌜ r ≡ firstFault (fieldRules l row column position) ⌝ }
 {
@@ -84,7 +84,7 @@ fn field_verdict(l: MdLayout, row: u32, column: u32, position: u32) -> Verdict
     check(part, within(1, fields, position), NO_SUCH, 0)
 }
 
-// The word of a field.
+// The word of a field of the part that coordinates name.
 fn field_word(l: MdLayout, row: u32, column: u32, position: u32) -> usize
     requires { ⌜ MdBounds l × IsField l row column position ⌝ }
     ensures { λ r. ⌜ r ≡ fieldWord l row column position ⌝ }

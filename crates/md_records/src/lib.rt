@@ -1,4 +1,4 @@
-// The parts of an MD file: a complete record, copied into a lent output.
+// Complete records of an MD file, copied into a lent output.
 use fresh_layout::md_of;
 use layout_rules::Layout;
 use md_places::part_start;
@@ -23,7 +23,7 @@ ghost use Rattle.md_rules.specs.Accepts.{MdOf};
 ghost use Rattle.md_rules.specs.Fields.{fieldsOf};
 ghost use Rattle.md_part_rules.specs.Records.{recordRules, partFields, recordFields, IsRecord, recordIn, copyRecord};
 
-// Whether there is such a record.
+// What the rules of a record of a row and a column say: 7 where there is no such record.
 fn record_verdict(l: MdLayout, row: u32, column: u32) -> Verdict
     ensures { λ r. ⌜ r ≡ firstFault (recordRules l row column) ⌝ }
 {

@@ -1,6 +1,6 @@
 -- The types of the calls' parameters and results, with what a walk wants of each (`walks/proofs/Known.antt`).
 --     layout-vals      a layout's machine values
---     number, layout, channel, a-block     a u32, a layout, a channel and a block
+--     number, layout, slot or band, a-block     a u32, a layout, a slot or band and a block
 --     bytes, a-reader  at the first lifetime, which is that of the file's bytes: a part of the file, or all of it; and a reader
 --     output           at the second: an output
 -- Assumes nothing.
@@ -16,7 +16,7 @@ use denote.Struct.Laws as LL
 use Rattle.area_rules.proofs.Block as Block
 use Rattle.area_rules.proofs.Block.Laws as Block′
 use Rattle.area_rules.proofs.SlotOrBand as SlotOrBand
-use Rattle.area_rules.proofs.SlotOrBand.Laws as Channel′
+use Rattle.area_rules.proofs.SlotOrBand.Laws as SlotOrBand′
 use Rattle.layout_rules.specs.declared.Layout.{Layout}
 use Rattle.layout_rules.proofs.Layout as Y
 use Rattle.layout_rules.proofs.Layout.Laws as Y′
@@ -33,12 +33,12 @@ module _ {n : ℕ} where
   abbrev pub a-number : Known n
   a-number = uint w32
 
-  -- a layout, a channel and a block
+  -- a layout, a slot or band and a block
   abbrev pub a-layout : Known n
   a-layout = one-of Y.the-type Y′.the-laws tt
 
-  abbrev pub channel : Known n
-  channel = one-of SlotOrBand.the-type Channel′.the-laws tt
+  abbrev pub a-slot-or-band : Known n
+  a-slot-or-band = one-of SlotOrBand.the-type SlotOrBand′.the-laws tt
 
   abbrev pub a-block : Known n
   a-block = one-of Block.the-type Block′.the-laws tt

@@ -31,12 +31,12 @@ pub fn new<'a>(file: &'a [u8], layout: Layout) -> Reader<'a>
     Reader { file, layout }
 }
 
-// The sample of a line and an element, both counted from 0, and a channel of an AREA file: an unsigned number. Refused as
+// The sample of a line and an element, both counted from 0, and a slot or band of an AREA file: an unsigned number. Refused as
 // `reads::read_sample`.
-pub fn sample<'a>(r: Reader<'a>, line: u32, element: u32, channel: SlotOrBand) -> NumberAnswer
-    ensures { λ s. ⌜ numberSays s ≡ readSample (now (r .entry .file)) (r .entry .layout) line element channel ⌝ }
+pub fn sample<'a>(r: Reader<'a>, line: u32, element: u32, which: SlotOrBand) -> NumberAnswer
+    ensures { λ s. ⌜ numberSays s ≡ readSample (now (r .entry .file)) (r .entry .layout) line element which ⌝ }
 {
-    read_sample(r.file, r.layout, line, element, channel)
+    read_sample(r.file, r.layout, line, element, which)
 }
 
 // The point of a row and a column, both counted from 1, of a grid: a signed word. Refused as `reads::read_point`.
@@ -63,10 +63,10 @@ pub fn block<'a>(r: Reader<'a>, block: Block) -> &'a [u8]
 
 // Copies one slot, or one band, of one line, counted from 0, of an AREA file into the first places of a lent output of unsigned numbers, and answers how many
 // it wrote. Refused as `area_lines::copy_line`. A refused copy writes nothing.
-pub fn copy_line<'a>(r: Reader<'a>, line: u32, channel: SlotOrBand, out: &mut [u32]) -> SizeAnswer
-    ensures { λ s. ⌜ (sizeSays s, now (out .exit)) ≡ copyLine (now (r .entry .file)) (r .entry .layout) line channel (now (out .entry)) ⌝ }
+pub fn copy_line<'a>(r: Reader<'a>, line: u32, which: SlotOrBand, out: &mut [u32]) -> SizeAnswer
+    ensures { λ s. ⌜ (sizeSays s, now (out .exit)) ≡ copyLine (now (r .entry .file)) (r .entry .layout) line which (now (out .entry)) ⌝ }
 {
-    area_lines::copy_line(r.file, r.layout, line, channel, out)
+    area_lines::copy_line(r.file, r.layout, line, which, out)
 }
 
 // Copies a grid, row by row, into the first places of a lent output of signed words, and answers how many it wrote. Refused as `grid_copies::copy_by_rows`. A
@@ -77,16 +77,16 @@ pub fn copy_by_rows<'a>(r: Reader<'a>, out: &mut [i32]) -> SizeAnswer
     grid_copies::copy_by_rows(r.file, r.layout, out)
 }
 
-// The sample of a line and an element, both counted from 0, and a channel of an AREA file, read through a reader that is made for this one call: for a caller
+// The sample of a line and an element, both counted from 0, and a slot or band of an AREA file, read through a reader that is made for this one call: for a caller
 // that has the two apart. Refused as `reads::read_sample`.
 pub fn read_through(
     file: &[u8],
     layout: Layout,
     line: u32,
     element: u32,
-    channel: SlotOrBand,
+    which: SlotOrBand,
 ) -> NumberAnswer
-    ensures { λ s. ⌜ numberSays s ≡ readSample (now (file .entry)) layout line element channel ⌝ }
+    ensures { λ s. ⌜ numberSays s ≡ readSample (now (file .entry)) layout line element which ⌝ }
 {
-    sample(new(file, layout), line, element, channel)
+    sample(new(file, layout), line, element, which)
 }

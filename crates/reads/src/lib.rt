@@ -18,11 +18,11 @@ ghost use Rattle.value_rules.specs.Reading.{placeIn, readSample, IsWord, readWo
 
 // Where a named value lies in a file. Refused with 9 where the layout is stale, then with 7 where it is of another kind than the name, then with 4 at 19 where
 // a band is named and the band map is unusable, then with 7 where there is no such line, element, slot, band, point or field.
-pub fn place_in(file: &[u8], layout: Layout, what: ValueName) -> PlaceAnswer
-    ensures { λ r. ⌜ placeSays r ≡ placeIn (now (file .entry)) layout what ⌝ }
+pub fn place_in(file: &[u8], layout: Layout, name: ValueName) -> PlaceAnswer
+    ensures { λ r. ⌜ placeSays r ≡ placeIn (now (file .entry)) layout name ⌝ }
 {
     if is_fresh(file, layout) {
-        place_of(layout, what)
+        place_of(layout, name)
     } else {
         PlaceAnswer::Refused(Refusal {
             number: STALE,
@@ -31,23 +31,23 @@ pub fn place_in(file: &[u8], layout: Layout, what: ValueName) -> PlaceAnswer
     }
 }
 
-// The sample of a line and an element, both counted from 0, and a channel of an AREA file: an unsigned number. Refused as `place_in`.
+// The sample of a line and an element, both counted from 0, and a slot or band of an AREA file: an unsigned number. Refused as `place_in`.
 pub fn read_sample(
     file: &[u8],
     layout: Layout,
     line: u32,
     element: u32,
-    channel: SlotOrBand,
+    which: SlotOrBand,
 ) -> NumberAnswer
-    ensures { λ r. ⌜ numberSays r ≡ readSample (now (file .entry)) layout line element channel ⌝ }
+    ensures { λ r. ⌜ numberSays r ≡ readSample (now (file .entry)) layout line element which ⌝ }
 {
     let order = order_of(layout);
-    let what = ValueName::Sample {
+    let name = ValueName::Sample {
         line: line,
         element: element,
-        channel: channel,
+        which: which,
     };
-    match place_in(file, layout, what) {
+    match place_in(file, layout, name) {
         PlaceAnswer::At(place) => NumberAnswer::Value(read_number(
             order,
             place.width,
@@ -59,12 +59,12 @@ pub fn read_sample(
 }
 
 // The signed word of a point or a field.
-fn read_word_of(file: &[u8], layout: Layout, what: ValueName) -> WordAnswer
-    requires { ⌜ IsWord what ⌝ }
-    ensures { λ r. ⌜ wordSays r ≡ readWord (now (file .entry)) layout what ⌝ }
+fn read_word_of(file: &[u8], layout: Layout, name: ValueName) -> WordAnswer
+    requires { ⌜ IsWord name ⌝ }
+    ensures { λ r. ⌜ wordSays r ≡ readWord (now (file .entry)) layout name ⌝ }
 {
     let order = order_of(layout);
-    match place_in(file, layout, what) {
+    match place_in(file, layout, name) {
         PlaceAnswer::At(place) => WordAnswer::Value(read_signed(order, file, place.address)),
         PlaceAnswer::Refused(refusal) => WordAnswer::Refused(refusal),
     }

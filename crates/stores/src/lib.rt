@@ -1,5 +1,5 @@
 // The stores of single values, into a file that is lent: a sample of an AREA file, a point of a grid, a field of an MD file. Each changes the bytes of its place only,
-// and a refusal changes nothing. What each does is its plan, of which `store_plans` shows that the order of stores does not matter.
+// and a refusal changes nothing. What each does is its plan; that the order of stores does not matter is shown in store_rules.
 use area_rules::SlotOrBand;
 use endian::unsigned;
 use endian_rules::Order;
@@ -51,32 +51,32 @@ fn put(file: &mut [u8], order: Order, place: Place, number: u32) -> StoreAnswer
 }
 
 // Stores the number that a value's bits are.
-fn store(file: &mut [u8], layout: Layout, what: ValueName, number: u32) -> StoreAnswer
-    ensures { λ r. ⌜ (storeSays r, now (file .exit)) ≡ storeAt (now (file .entry)) layout what number ⌝ }
+fn store(file: &mut [u8], layout: Layout, name: ValueName, number: u32) -> StoreAnswer
+    ensures { λ r. ⌜ (storeSays r, now (file .exit)) ≡ storeAt (now (file .entry)) layout name number ⌝ }
 {
     let order = order_of(layout);
-    match place_in(file, layout, what) {
+    match place_in(file, layout, name) {
         PlaceAnswer::At(place) => put(file, order, place, number),
         PlaceAnswer::Refused(refusal) => StoreAnswer::Refused(refusal),
     }
 }
 
-// Stores a number, 0 to 4,294,967,295, into the sample of a line and an element, both counted from 0, and a channel of an AREA file. Refused as
+// Stores a number, 0 to 4,294,967,295, into the sample of a line and an element, both counted from 0, and a slot or band of an AREA file. Refused as
 // `reads::read_sample`, and then with 8 where the number does not fit the bytes of a sample.
 pub fn store_sample(
     file: &mut [u8],
     layout: Layout,
     line: u32,
     element: u32,
-    channel: SlotOrBand,
+    which: SlotOrBand,
     number: u32,
 ) -> StoreAnswer
-    ensures { λ r. ⌜ (storeSays r, now (file .exit)) ≡ storeSample (now (file .entry)) layout line element channel number ⌝ }
+    ensures { λ r. ⌜ (storeSays r, now (file .exit)) ≡ storeSample (now (file .entry)) layout line element which number ⌝ }
 {
     let sample = ValueName::Sample {
         line: line,
         element: element,
-        channel: channel,
+        which: which,
     };
     store(file, layout, sample, number)
 }

@@ -11,7 +11,7 @@ ghost use mathlib.Core.Path.{_≡_};
 ghost use Rattle.refusal_rules.specs.Answers.{placeSays};
 ghost use Rattle.value_rules.specs.Places.{placeOf};
 
-// No place, for a layout of another kind.
+// Refusal 7, for a layout of another kind than the name of the value.
 fn no_such() -> PlaceAnswer
     ensures { λ r. ⌜ r ≡ PlaceAnswer.Refused (record { number = 7; place = 0 }) ⌝ }
 {
@@ -23,16 +23,16 @@ fn no_such() -> PlaceAnswer
 
 // Where a named value lies, by a layout alone. Refused with 7 where the layout is of another kind than the name, then with 4 at 19 where a band is named and
 // the band map is unusable, then with 7 where there is no such line, element, slot, band, point or field, or the layout is above the bounds that opening sets.
-pub fn place_of(layout: Layout, what: ValueName) -> PlaceAnswer
-    ensures { λ r. ⌜ placeSays r ≡ placeOf layout what ⌝ }
+pub fn place_of(layout: Layout, name: ValueName) -> PlaceAnswer
+    ensures { λ r. ⌜ placeSays r ≡ placeOf layout name ⌝ }
 {
-    match what {
+    match name {
         ValueName::Sample {
             line,
             element,
-            channel,
+            which,
         } => match layout {
-            Layout::Area(l) => sample_place(l, line, element, channel),
+            Layout::Area(l) => sample_place(l, line, element, which),
             Layout::Grid(_) => no_such(),
             Layout::Md(_) => no_such(),
         },

@@ -146,7 +146,7 @@ places-apart {l = l} {p = p} {q = q} a b other =
 
 -- ---- one address, one name
 
--- samples at one address have one line, one element, and channels that mean one slot
+-- samples at one address have one line, one element, and slots or bands that mean one slot
 pub samples-named : {f : List ℕ} {l : AreaLayout} {i e j d : ℕ} {c k : SlotOrBand} {p q : Place} → Located f (Area l) (Sample i e c) p
     → Located f (Area l) (Sample j d k) q → p .address ≡ q .address → (i ≡ j) × ((e ≡ d) × (slotOf l c ≡ slotOf l k))
 samples-named {f} (sample-at {l} {i} {e} {s} opens slot is same) (sample-at {i = j} {e = d} {s = t} opens′ slot′ is′ same′) at =

@@ -83,7 +83,7 @@ made-stale read f l x =
 
 -- ---- samples
 
--- a sample of a file: the layout is an AREA layout that opening the file gives, the channel means a slot, there is such a sample, and n is the number
+-- a sample of a file: the layout is an AREA layout that opening the file gives, the slot or band means a slot, there is such a sample, and n is the number
 -- at its address
 pub record SampleOf (f : List ℕ) (l : Layout) (i e : ℕ) (c : SlotOrBand) (n : ℕ) : Type 0 where
   pub area : AreaLayout

@@ -16,8 +16,8 @@ enum-known-refusal c = search needs
 enum-known-l : tie.Need-enum-known-l
 enum-known-l c = search needs
 
-copy-channel-requires : tie.Need-copy-channel-requires
-copy-channel-requires c κs = area-known _ _ _ (sym (c .before .before .before .before .area-of .ensures) ∙ ap areaSays (c .before .before .l .given .1))
+copy-line-in-requires : tie.Need-copy-line-in-requires
+copy-line-in-requires c κs = area-known _ _ _ (sym (c .before .before .before .before .area-of .ensures) ∙ ap areaSays (c .before .before .l .given .1))
 
 returns : tie.Need-returns
 returns c = rw (← c .before .before .before .area-of .ensures, c .before .refusal .given .1)
@@ -27,7 +27,7 @@ same-length c = search needs
 
 returns-2 : tie.Need-returns-2
 returns-2 c =
-    rw (← c .before .before .before .before .before .before .before .area-of .ensures, c .before .before .before .before .before .l .given .1) (c .before .before .copy-channel .ensures)
+    rw (← c .before .before .before .before .before .before .before .area-of .ensures, c .before .before .before .before .before .l .given .1) (c .before .before .copy-line-in .ensures)
 
 pub copy-line-spec : {M : Type 1} → statement M
 copy-line-spec =
@@ -36,7 +36,7 @@ copy-line-spec =
     area-of-requires
     enum-known-refusal
     enum-known-l
-    copy-channel-requires
+    copy-line-in-requires
     returns
     same-length
     returns-2)

@@ -34,7 +34,7 @@ sample-address-requires : tie.Need-sample-address-requires
 sample-address-requires c κs =
     let s = c .before .before .before .before .before .before .before in
     let (bounds, (line, element)) = samples-hold _ _ _ .0 (pass-hold _ (sym (c .before .before .sample-verdict .ensures) ∙ c .enum-told .given .1)) in
-    let slot = named-slot-inside (s .args .l) (s .args .channel) _ (sym (c .before .before .before .before .before .before .slot-of .ensures) ∙ ap numberSays (c .before .before .before .before .slot .given .1)) in
+    let slot = named-slot-inside (s .args .l) (s .args .which) _ (sym (c .before .before .before .before .before .before .slot-of .ensures) ∙ ap numberSays (c .before .before .before .before .slot .given .1)) in
     (bounds, (omega arith, (omega arith, omega arith)))
 
 cast-t13 : tie.Need-cast-t13

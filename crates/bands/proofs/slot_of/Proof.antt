@@ -9,14 +9,14 @@ use borrow.Author.Needs.{needs}
 use Rattle.bands.proofs.slot_of.Statement.{statement}
 use Rattle.bands.proofs.slot_of.Tie as tie
 
-verdict : (c : tie.After-check) → let s = c .before .before .before .channel .given .0 .0 in
+verdict : (c : tie.After-check) → let s = c .before .before .before .which .given .0 .0 in
     let l = c .before .before .before .before .before .args .layout in
     c .check .result ≡ firstFault (rule (ltb s (l .bands)) 7 0 ∷ [])
 unfolding chained
 verdict c = by-table _ (c .check .ensures)
 
-enum-known-channel : tie.Need-enum-known-channel
-enum-known-channel c = search needs
+enum-known-which : tie.Need-enum-known-which
+enum-known-which c = search needs
 
 check-requires : tie.Need-check-requires
 check-requires c κs = search needs
@@ -27,32 +27,32 @@ enum-known-refusal c = search needs
 enum-told : tie.Need-enum-told
 enum-told c = search needs
 
-enum-known-channel-2 : tie.Need-enum-known-channel-2
-enum-known-channel-2 c = search needs
+enum-known-which-2 : tie.Need-enum-known-which-2
+enum-known-which-2 c = search needs
 
 slot-of-band-requires : tie.Need-slot-of-band-requires
 slot-of-band-requires c κs = search needs
 
 returns : tie.Need-returns
 returns c =
-    rw (c .before .before .before .before .before .before .channel .given .1, sym (verdict (c .before .before .before)) ∙ c .before .refusal .given .1)
+    rw (c .before .before .before .before .before .before .which .given .1, sym (verdict (c .before .before .before)) ∙ c .before .refusal .given .1)
 
 returns-2 : tie.Need-returns-2
 returns-2 c =
-    rw (c .before .before .before .before .before .channel .given .1, sym (verdict (c .before .before)) ∙ c .enum-told .given .1)
+    rw (c .before .before .before .before .before .which .given .1, sym (verdict (c .before .before)) ∙ c .enum-told .given .1)
 
 returns-3 : tie.Need-returns-3
-returns-3 c = rw (c .before .before .channel2 .given .1) (c .slot-of-band .ensures)
+returns-3 c = rw (c .before .before .which2 .given .1) (c .slot-of-band .ensures)
 
 pub slot-of-spec : {M : Type 1} → statement M
 slot-of-spec =
     tie.close
     (tie.spec
-    enum-known-channel
+    enum-known-which
     check-requires
     enum-known-refusal
     enum-told
-    enum-known-channel-2
+    enum-known-which-2
     slot-of-band-requires
     returns
     returns-2

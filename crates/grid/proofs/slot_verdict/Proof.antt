@@ -56,8 +56,8 @@ cast-high c = search needs
 add-high-2 : tie.Need-add-high-2
 add-high-2 c = search needs
 
-shared-requires : tie.Need-shared-requires
-shared-requires c κs = search needs
+shares-word-requires : tie.Need-shares-word-requires
+shares-word-requires c κs = search needs
 
 add-check : tie.Need-add-check
 add-check c = search needs
@@ -77,7 +77,7 @@ returns-3 c =
     let own = sym (c .before .before .before .before .before .own-verdict .ensures) ∙ c .before .before .before .enum-told .given .1 in
     rw (
       c .check .ensures,
-      c .before .shared .ensures,
+      c .before .shares-word .ensures,
       c .before .before .read-word2 .ensures,
       c .before .before .before .before .before .before .before .read-word .ensures,
     )
@@ -98,7 +98,7 @@ slot-verdict-spec =
     read-word-requires-2
     cast-high
     add-high-2
-    shared-requires
+    shares-word-requires
     add-check
     check-requires
     returns-2

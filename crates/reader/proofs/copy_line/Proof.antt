@@ -21,15 +21,15 @@ use Rattle.walks.proofs.Known.{Known, one-of, passed-as}
 use Rattle.walks.proofs.Locals.{holding, starts, frees-all, at}
 use Rattle.walks.proofs.Slices.{member, lends-on}
 use Rattle.reader.proofs.Calls.{Opens, opened}
-use Rattle.reader.proofs.Known.{channel, a-number, output, a-reader}
+use Rattle.reader.proofs.Known.{a-slot-or-band, a-number, output, a-reader}
 use Rattle.reader.proofs.copy_line as self
 use Rattle.reader.proofs.copy_line.Code as code
 use Rattle.reader.proofs.copy_line.Key as key
 use Rattle.reader.proofs.copy_line.Statement.{statement}
 
--- line, channel and output
+-- line, slot or band, and output
 abbrev beside : List (Known 2)
-beside = a-number ∷ channel ∷ output u32 ∷ []
+beside = a-number ∷ a-slot-or-band ∷ output u32 ∷ []
 
 abbrev answer : Known 2
 answer = one-of Answer.the-type Answer′.the-laws tt

@@ -16,7 +16,7 @@ use Rattle.reads.proofs.read_sample as read_sample
 use Rattle.walks.proofs.Calls.{informs}
 use Rattle.walks.proofs.Known.{Known, one-of, passed-as}
 use Rattle.walks.proofs.Locals.{holding, starts, frees-all, at}
-use Rattle.reader.proofs.Known.{a-number, channel, bytes, a-layout}
+use Rattle.reader.proofs.Known.{a-number, a-slot-or-band, bytes, a-layout}
 use Rattle.reader.proofs.Making.{Passes, passed}
 use Rattle.reader.proofs.new.Met as new-met
 use Rattle.reader.proofs.new.Symbol as new-def
@@ -27,9 +27,9 @@ use Rattle.reader.proofs.read_through.Code as code
 use Rattle.reader.proofs.read_through.Key as key
 use Rattle.reader.proofs.read_through.Statement.{statement}
 
--- line, element and channel
+-- line, element, and slot or band
 abbrev beside : List (Known 1)
-beside = a-number ∷ a-number ∷ channel ∷ []
+beside = a-number ∷ a-number ∷ a-slot-or-band ∷ []
 
 abbrev answer : Known 1
 answer = one-of Answer.the-type Answer′.the-laws tt

@@ -20,15 +20,15 @@ use Rattle.walks.proofs.Known.{Known, one-of, passed-as}
 use Rattle.walks.proofs.Locals.{holding, starts, frees-all, at}
 use Rattle.walks.proofs.Slices.{member}
 use Rattle.reader.proofs.Calls.{Opens, opened}
-use Rattle.reader.proofs.Known.{channel, a-number, a-reader}
+use Rattle.reader.proofs.Known.{a-slot-or-band, a-number, a-reader}
 use Rattle.reader.proofs.sample as self
 use Rattle.reader.proofs.sample.Code as code
 use Rattle.reader.proofs.sample.Key as key
 use Rattle.reader.proofs.sample.Statement.{statement}
 
--- line, element and channel
+-- line, element, and slot or band
 abbrev beside : List (Known 1)
-beside = a-number ∷ a-number ∷ channel ∷ []
+beside = a-number ∷ a-number ∷ a-slot-or-band ∷ []
 
 abbrev answer : Known 1
 answer = one-of Answer.the-type Answer′.the-laws tt

@@ -18,12 +18,12 @@ returns : tie.Need-returns
 returns c =
     let a = c .before .before .before .before .args in
     c .place-of .ensures
-    ∙ sym (found-told (λ m. placeOf m (a .what)) (now (a .file)) (a .layout) (c .before .before .is-fresh .ensures) (c .before .if1 .taken))
+    ∙ sym (found-told (λ m. placeOf m (a .name)) (now (a .file)) (a .layout) (c .before .before .is-fresh .ensures) (c .before .if1 .taken))
 
 returns-2 : tie.Need-returns-2
 returns-2 c =
     let a = c .before .before .before .args in
-    sym (stale-told (λ m. placeOf m (a .what)) (now (a .file)) (a .layout) (c .before .is-fresh .ensures) (c .if1 .left))
+    sym (stale-told (λ m. placeOf m (a .name)) (now (a .file)) (a .layout) (c .before .is-fresh .ensures) (c .if1 .left))
 
 pub place-in-spec : {M : Type 1} → statement M
 place-in-spec = tie.close (tie.spec is-fresh-requires place-of-requires returns returns-2)

@@ -17,7 +17,7 @@ same-length c = search needs
 returns : tie.Need-returns
 returns c =
     let a = c .before .before .before .before .before .args in
-    c .before .before .store .ensures ∙ sym (store-by-place (now (a .file)) (a .layout) (sample (a .line) (a .element) (a .channel) (a .number)))
+    c .before .before .store .ensures ∙ sym (store-by-place (now (a .file)) (a .layout) (sample (a .line) (a .element) (a .which) (a .number)))
 
 pub store-sample-spec : {M : Type 1} → statement M
 store-sample-spec = tie.close (tie.spec store-requires same-length returns)

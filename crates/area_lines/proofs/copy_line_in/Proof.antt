@@ -1,4 +1,4 @@
--- `area_lines::copy_channel` meets its contract: the line is a run from the place of its element 0 on.
+-- `area_lines::copy_line_in` meets its contract: the line is a run from the place of its element 0 on.
 -- Assumes nothing.
 use mathlib.Core.Path.{sym, ap, _∙_}
 use native.Mathlib.Nat.{mul-le-mul}
@@ -7,10 +7,10 @@ use denote.Ref.{now}
 use Rattle.refusal_rules.specs.Answers.{mapped, placeSays}
 use Rattle.area_rules.proofs.Samples.{width-to}
 use Rattle.copy_rules.specs.Runs.{copied}
-use Rattle.area_part_rules.proofs.Lines.{lineFrom, line-from, line-inside}
+use Rattle.area_part_rules.proofs.Lines.{lineFrom, line-from, line-samples-inside}
 use borrow.Author.Needs.{needs}
-use Rattle.area_lines.proofs.copy_channel.Statement.{statement}
-use Rattle.area_lines.proofs.copy_channel.Tie as tie
+use Rattle.area_lines.proofs.copy_line_in.Statement.{statement}
+use Rattle.area_lines.proofs.copy_line_in.Tie as tie
 
 sample-place-requires : tie.Need-sample-place-requires
 sample-place-requires c κs = search needs
@@ -38,7 +38,7 @@ cast-t15 c = search needs
 copy-numbers-requires : tie.Need-copy-numbers-requires
 copy-numbers-requires c κs =
     let s = c .before .before .before .before .before .before .before .before .before .before in
-    line-inside (now (s .args .file)) (s .args .l) (s .pre) (s .args .line) (s .args .channel) _
+    line-samples-inside (now (s .args .file)) (s .args .l) (s .pre) (s .args .line) (s .args .which) _
     (sym (c .before .before .before .before .before .before .before .sample-place .ensures)
     ∙ ap placeSays (c .before .before .before .before .before .place .given .1))
 
@@ -49,7 +49,7 @@ returns c =
     ap (λ x. copied x (now (a .out)))
     (ap (λ x. mapped (lineFrom (now (a .file)) (a .l)) (placeSays x)) (sym (c .before .refusal .given .1))
     ∙ ap (mapped (lineFrom (now (a .file)) (a .l))) (c .before .before .before .sample-place .ensures)
-    ∙ line-from (now (a .file)) (a .l) (s .pre .fits) (a .line) (a .channel))
+    ∙ line-from (now (a .file)) (a .l) (s .pre .fits) (a .line) (a .which))
 
 same-length : tie.Need-same-length
 same-length c = search needs
@@ -62,10 +62,10 @@ returns-2 c =
     ∙ ap (λ x. copied x (now (a .out)))
     (ap (λ x. mapped (lineFrom (now (a .file)) (a .l)) (placeSays x)) (sym (c .before .before .before .before .before .before .before .before .place .given .1))
     ∙ ap (mapped (lineFrom (now (a .file)) (a .l))) (c .before .before .before .before .before .before .before .before .before .before .sample-place .ensures)
-    ∙ line-from (now (a .file)) (a .l) (s .pre .fits) (a .line) (a .channel))
+    ∙ line-from (now (a .file)) (a .l) (s .pre .fits) (a .line) (a .which))
 
-pub copy-channel-spec : {M : Type 1} → statement M
-copy-channel-spec =
+pub copy-line-in-spec : {M : Type 1} → statement M
+copy-line-in-spec =
     tie.close
     (tie.spec
     sample-place-requires

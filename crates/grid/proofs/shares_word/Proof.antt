@@ -1,4 +1,4 @@
--- `grid::shared` meets its contract: no slot before the one that the loop is at has a word of the stretch.
+-- `grid::shares_word` meets its contract: no slot before the one that the loop is at has a word of the stretch.
 -- Assumes nothing.
 use mathlib.Core.Path.{_≡_, refl, sym, ap, _∙_}
 use mathlib.Core.Bool.{false}
@@ -9,8 +9,8 @@ use denote.Ref.{now}
 use Rattle.endian_rules.specs.Words.{wordAt}
 use Rattle.grid_rules.specs.Rules.{shares}
 use Rattle.grid_rules.proofs.Slots.{each-passes, shares-at}
-use Rattle.grid.proofs.shared.Statement.{statement}
-use Rattle.grid.proofs.shared.Tie as tie
+use Rattle.grid.proofs.shares_word.Statement.{statement}
+use Rattle.grid.proofs.shares_word.Tie as tie
 
 abbrev Inv-loop : tie.InvT-loop
 Inv-loop file order n next k low high j₀ j = (j ≤ k) × (shares (wordAt order file) low high j ≡ false)
@@ -52,8 +52,8 @@ returns-2 c =
     let all : c .before .loop .j ≡ a .k = omega arith in
     sym (ap (shares (wordAt (a .order) (now (a .file))) (a .low) (a .high)) (sym all) ∙ c .before .loop .inv .1)
 
-pub shared-spec : {M : Type 1} → statement M
-shared-spec =
+pub shares-word-spec : {M : Type 1} → statement M
+shares-word-spec =
     tie.close
     (tie.spec
     Inv-loop
