@@ -3,12 +3,13 @@
 use mathlib.Core.Path.{_≡_, refl, sym, subst}
 use mathlib.Core.Bool.{true}
 use mathlib.Core.Logic.{_↔_}
-use mathlib.Core.List.{List}
+use mathlib.Core.List.{List, [], _∷_}
 use Prim.Native.Nat.{ℕ, _+_, _≤_}
 use native.Mathlib.Nat.{le-refl}
 use native.Mathlib.Omega.{arith}
 use lib.ListN.{length}
 use Rattle.refusal_rules.specs.Answers.{Answer, gives, refuses, andThen}
+use Rattle.refusal_rules.specs.Rules.{tabled}
 use Rattle.refusal_rules.proofs.Answers.{then-gives, value-exactly, never-refused}
 use Rattle.refusal_rules.proofs.Tables.{also}
 use Rattle.area_rules.specs.Samples.{dataEndIn, AreaFits, AreaOf}
@@ -33,6 +34,11 @@ pub data-end : (l : AreaLayout) → AreaFits l → lineStartOf l (l .lines) ≡ 
 data-end l fits = line-begins l fits (l .lines) (le-refl (l .lines))
 
 -- ---- blocks
+
+-- an absent block is refused with 6
+pub block-order : (l : AreaLayout) (b : Block) → tabled (blockRules l b) ≡ (6, 0) ∷ []
+unfolding tabled blockRules
+block-order l b = refl
 
 module _ (l : AreaLayout) (b : Block) where
   -- a block has a span exactly where it is present, and then its own

@@ -83,12 +83,7 @@ fresh-told f l e = subst (λ t. Exactly t (Fresh f l)) (sym e) (fresh-exactly f 
 -- ---- what a call finds by file and layout
 
 module _ {Value : Type 0} (own : Layout → Answer Value) (f : List ℕ) (l : Layout) where
-  -- with a fresh layout
-  pub found-fresh : Fresh f l → found own f l ≡ own l
-  unfolding found
-  found-fresh h = ap (λ t. pick t (own l) (refuses 9 0)) (fresh-exactly f l .complete h)
-
-  -- with a stale one
+  -- with a stale layout the call refuses 9
   pub found-stale : ¬ Fresh f l → found own f l ≡ refuses 9 0
   unfolding found
   found-stale h = step (isFresh f l) refl
@@ -96,6 +91,11 @@ module _ {Value : Type 0} (own : Layout → Answer Value) (f : List ℕ) (l : La
       step : (t : Bool) → isFresh f l ≡ t → pick t (own l) (refuses 9 0) ≡ refuses 9 0
       step true e = absurd (h (fresh-exactly f l .sound e))
       step false e = refl
+
+  -- with a fresh layout it says what its own rules say
+  pub found-fresh : Fresh f l → found own f l ≡ own l
+  unfolding found
+  found-fresh h = ap (λ t. pick t (own l) (refuses 9 0)) (fresh-exactly f l .complete h)
 
   -- by a test that tells which
   pub found-told : {t : Bool} → Exactly t (Fresh f l) → t ≡ true → found own f l ≡ own l
