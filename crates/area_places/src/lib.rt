@@ -20,71 +20,71 @@ ghost use Rattle.area_rules.specs.Samples.{lineLengthIn, lineStart, sampleAddre
 ghost use Rattle.area_rules.specs.Places.{lineStartOf, sampleRules, samplePlace};
 
 // Whether the fields that AREA addresses are computed from are within the bounds that opening sets.
-fn area_bounded(l: AreaLayout) -> bool
-    ensures { λ r. ⌜ r ≡ areaBounded l ⌝ }
+fn area_bounded(layout: AreaLayout) -> bool
+    ensures { λ r. ⌜ r ≡ areaBounded layout ⌝ }
 {
-    let samples = and(l.width <= 4, l.bands <= 64);
-    and(l.lines <= 65535, and(l.elements <= 65535, samples))
+    let samples = and(layout.width <= 4, layout.bands <= 64);
+    and(layout.lines <= 65535, and(layout.elements <= 65535, samples))
 }
 
 // The line length, in bytes.
-fn line_length_in(l: AreaLayout) -> usize
-    requires { ⌜ AreaBounds l ⌝ }
-    ensures { λ r. ⌜ r ≡ lineLengthIn l ⌝ }
+fn line_length_in(layout: AreaLayout) -> usize
+    requires { ⌜ AreaBounds layout ⌝ }
+    ensures { λ r. ⌜ r ≡ lineLengthIn layout ⌝ }
 {
-    l.prefix as usize + l.bands as usize * l.elements as usize * l.width as usize
+    layout.prefix as usize + layout.bands as usize * layout.elements as usize * layout.width as usize
 }
 
 // The byte at which a line begins, with its prefix.
-fn line_at(l: AreaLayout, line: u32) -> usize
-    requires { ⌜ AreaBounds l × (line ≤ l .lines) ⌝ }
-    ensures { λ r. ⌜ r ≡ lineStart l line ⌝ }
+fn line_at(layout: AreaLayout, line: u32) -> usize
+    requires { ⌜ AreaBounds layout × (line ≤ layout .lines) ⌝ }
+    ensures { λ r. ⌜ r ≡ lineStart layout line ⌝ }
 {
-    l.data_start as usize + line as usize * line_length_in(l)
+    layout.data_start as usize + line as usize * line_length_in(layout)
 }
 
 // The byte at which a line of an AREA file begins, with its prefix, the line counted from 0. Line W9 would begin where DATA ends, and so gives that byte.
 // Refused with 7 for any line behind it, or where the layout is above the bounds that opening sets.
-pub fn line_start(l: AreaLayout, line: u32) -> SizeAnswer
-    ensures { λ r. ⌜ sizeSays r ≡ lineStartOf l line ⌝ }
+pub fn line_start(layout: AreaLayout, line: u32) -> SizeAnswer
+    ensures { λ r. ⌜ sizeSays r ≡ lineStartOf layout line ⌝ }
 {
-    let bounded = check(Verdict::Pass, area_bounded(l), NO_SUCH, 0);
-    match check(bounded, line <= l.lines, NO_SUCH, 0) {
+    let bounded = check(Verdict::Pass, area_bounded(layout), NO_SUCH, 0);
+    match check(bounded, line <= layout.lines, NO_SUCH, 0) {
         Verdict::Fault(refusal) => SizeAnswer::Refused(refusal),
-        Verdict::Pass => SizeAnswer::Value(line_at(l, line)),
+        Verdict::Pass => SizeAnswer::Value(line_at(layout, line)),
     }
 }
 
 // The byte at which the sample of a line, an element and a slot begins.
-fn sample_address(l: AreaLayout, line: u32, element: u32, slot: u32) -> usize
-    requires { ⌜ AreaBounds l × ((line ≤ l .lines) × ((element ≤ l .elements) × (slot ≤ l .bands))) ⌝ }
-    ensures { λ r. ⌜ r ≡ sampleAddress l line element slot ⌝ }
+fn sample_address(layout: AreaLayout, line: u32, element: u32, slot: u32) -> usize
+    requires { ⌜ AreaBounds layout × ((line ≤ layout .lines) × ((element ≤ layout .elements) × (slot ≤ layout .bands))) ⌝ }
+    ensures { λ r. ⌜ r ≡ sampleAddress layout line element slot ⌝ }
 {
-    let before = element as usize * l.bands as usize + slot as usize;
-    line_at(l, line) + l.prefix as usize + before * l.width as usize
+    let before = element as usize * layout.bands as usize + slot as usize;
+    line_at(layout, line) + layout.prefix as usize + before * layout.width as usize
 }
 
 // What the rules of a sample of a line and an element say: 7 where there is no such line or element.
-fn sample_verdict(l: AreaLayout, line: u32, element: u32) -> Verdict
-    ensures { λ r. ⌜ r ≡ firstFault (sampleRules l line element) ⌝ }
+fn sample_verdict(layout: AreaLayout, line: u32, element: u32) -> Verdict
+    ensures { λ r. ⌜ r ≡ firstFault (sampleRules layout line element) ⌝ }
 {
-    let bounded = check(Verdict::Pass, area_bounded(l), NO_SUCH, 0);
-    let lines = check(bounded, line < l.lines, NO_SUCH, 0);
-    check(lines, element < l.elements, NO_SUCH, 0)
+    let bounded = check(Verdict::Pass, area_bounded(layout), NO_SUCH, 0);
+    let lines = check(bounded, line < layout.lines, NO_SUCH, 0);
+    check(lines, element < layout.elements, NO_SUCH, 0)
 }
 
 // The place of a sample of an AREA file, named by line and element, both counted from 0, and slot or band. Refused with 4 at 19 where a band is named and the band
 // map is unusable, then with 7 where there is no such line, element, slot or band, or the layout is above the bounds that opening sets.
-pub fn sample_place(l: AreaLayout, line: u32, element: u32, which: SlotOrBand) -> PlaceAnswer
-    ensures { λ r. ⌜ placeSays r ≡ samplePlace l line element which ⌝ }
+pub fn sample_place(layout: AreaLayout, line: u32, element: u32, which: SlotOrBand) -> PlaceAnswer
+    ensures { λ r. ⌜ placeSays r ≡ samplePlace layout line element which ⌝ }
 {
-    match slot_of(l, which) {
+    match slot_of(layout, which) {
         NumberAnswer::Refused(refusal) => PlaceAnswer::Refused(refusal),
-        NumberAnswer::Value(slot) => match sample_verdict(l, line, element) {
+        NumberAnswer::Value(slot) => match sample_verdict(layout, line, element) {
             Verdict::Fault(refusal) => PlaceAnswer::Refused(refusal),
             Verdict::Pass => PlaceAnswer::At(Place {
-                address: sample_address(l, line, element, slot),
-                width: l.width as usize,
+                address: sample_address(layout, line, element, slot),
+                width: layout.width as usize,
             }),
         },
     }

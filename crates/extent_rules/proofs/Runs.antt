@@ -326,10 +326,10 @@ module _ (t u : ℕ → Bool) where
       (compared n a)
 
 -- lines of one element where a test holds, and of none elsewhere
-counted : {A : Type 0} (g : ℕ → List A) (t : ℕ → Bool) → ((i : ℕ) → length (g i) ≡ pick (t i) 1 0) → (n : ℕ) → length (linesOf g n) ≡ howMany t n
+lines-counted : {A : Type 0} (g : ℕ → List A) (t : ℕ → Bool) → ((i : ℕ) → length (g i) ≡ pick (t i) 1 0) → (n : ℕ) → length (linesOf g n) ≡ howMany t n
 unfolding linesOf howMany
-counted g t h zero = refl
-counted g t h (suc n) = length-append (linesOf g n) (g n) ∙ ap₂ _+_ (counted g t h n) (h n)
+lines-counted g t h zero = refl
+lines-counted g t h (suc n) = length-append (linesOf g n) (g n) ∙ ap₂ _+_ (lines-counted g t h n) (h n)
 
 -- there are as many free stretches as words at which one starts
 pub stretches-count : (w : ℕ → ℕ) (whole : ℕ) → length (freeStretches w whole) ≡ howMany (λ i. stretchStarts w (firstWord w + i)) (whole - firstWord w)
@@ -344,7 +344,7 @@ stretches-count w whole = lines (whole - firstWord w)
         step false e = ap length (stretch-none w whole p e)
 
     lines : (n : ℕ) → length (linesOf (λ i. stretchAt w whole (firstWord w + i)) n) ≡ howMany (λ i. stretchStarts w (firstWord w + i)) n
-    lines = counted (λ i. stretchAt w whole (firstWord w + i)) (λ i. stretchStarts w (firstWord w + i)) (λ i. one (firstWord w + i))
+    lines = lines-counted (λ i. stretchAt w whole (firstWord w + i)) (λ i. stretchStarts w (firstWord w + i)) (λ i. one (firstWord w + i))
 
 -- where each stretch of one file's words but one starts a stretch of another's too, the other has at most one less
 pub stretches-more : (w v : ℕ → ℕ) (whole a : ℕ) → w 10 ≡ v 10 → ((p : ℕ) → ¬ (p ≡ a) → stretchStarts w p ≡ true → stretchStarts v p ≡ true)

@@ -141,15 +141,15 @@ module _ (f : List ℕ) (l : Layout) (q : Request) where
 -- ---- stores of signed words
 
 -- the bits of a signed word fit four bytes
-word-fits : (f : List ℕ) (l : Layout) (q : Request) (p : Place) → Located f l (valueNameOf q) p → IsWord (valueNameOf q) → InType (requestNumber q)
+word-number-fits : (f : List ℕ) (l : Layout) (q : Request) (p : Place) → Located f l (valueNameOf q) p → IsWord (valueNameOf q) → InType (requestNumber q)
     → bitsOf (requestNumber q) < 256 ^ p .width
-word-fits f l (sample i e c n) p at is typed = absurd is
-word-fits f l (point r c v) p at is typed = rw (word-width at is) (fits-ofZ typed .fits)
-word-fits f l (field r c k v) p at is typed = rw (word-width at is) (fits-ofZ typed .fits)
+word-number-fits f l (sample i e c n) p at is typed = absurd is
+word-number-fits f l (point r c v) p at is typed = rw (word-width at is) (fits-ofZ typed .fits)
+word-number-fits f l (field r c k v) p at is typed = rw (word-width at is) (fits-ofZ typed .fits)
 
 -- The store of a point or a field succeeds exactly where there is such a value: it is never refused with 8.
 pub word-done : (f : List ℕ) (l : Layout) (q : Request) → IsWord (valueNameOf q) → InType (requestNumber q)
     → (storesIn f (record { layout = l; request = q }) .0 ≡ gives tt) ↔ ((p : Place) × Fresh f l × Located f l (valueNameOf q) p)
 word-done f l q is typed =
     let x = done-exactly f l q in
-    (λ e. let (p, at, fits) = x .0 e in (p, at .0, at .1), λ h. x .1 (h .0, (h .1, h .2), word-fits f l q (h .0) (h .2) is typed))
+    (λ e. let (p, at, fits) = x .0 e in (p, at .0, at .1), λ h. x .1 (h .0, (h .1, h .2), word-number-fits f l q (h .0) (h .2) is typed))

@@ -32,8 +32,8 @@ abbrev Empty : {M : Type 1} (𝓤 : URA M) (H : Heap 𝓤) → Env 𝓤 H → �
 Empty 𝓤 H E x = ‵ (froom (spotOf 𝓤 H E x .0) (spotOf 𝓤 H E x .1) (spotOf 𝓤 H E x .2))
 
 -- v is of the type of local x
-abbrev Fits : {M : Type 1} (𝓤 : URA M) (H : Heap 𝓤) → Env 𝓤 H → ℕ → Val → Type 0
-Fits 𝓤 H E x v = T (hasTy (spotOf 𝓤 H E x .0) v) × WT v
+abbrev Takes : {M : Type 1} (𝓤 : URA M) (H : Heap 𝓤) → Env 𝓤 H → ℕ → Val → Type 0
+Takes 𝓤 H E x v = T (hasTy (spotOf 𝓤 H E x .0) v) × WT v
 
 module _ {M : Type 1} {𝓤 : URA M} {H : Heap 𝓤} {A : Atoms 𝓤} {K : Type 0} {W : Given 𝓤 H A} {Γ : List (Item 𝓤)} where
   -- field k of the struct at entry n is part of it
@@ -57,9 +57,9 @@ module _ {M : Type 1} {𝓤 : URA M} {H : Heap 𝓤} {A : Atoms 𝓤} {K : Type 
       → nth 𝓤 H A n Γ ≡ ‵ (fat s (sliceTy ρ) (spotOf 𝓤 H E i .1) (spotOf 𝓤 H E i .2) (sliceVal (b, o) m))
       → fieldAt zero (tcons ρ (tcons (tyInt w64) tnil)) 0 ≡ some (ρ, c) → fieldOf (spotOf 𝓤 H E i .0) 0 ≡ some (ρ, c)
       → fieldAt zero (tcons ρ (tcons (tyInt w64) tnil)) 1 ≡ some (tyInt w64, d) → fieldOf (spotOf 𝓤 H E i .0) 1 ≡ some (tyInt w64, d)
-      → nth 𝓤 H A k Γ ≡ Empty 𝓤 H E x → Fits 𝓤 H E x (vptr b o)
+      → nth 𝓤 H A k Γ ≡ Empty 𝓤 H E x → Takes 𝓤 H E x (vptr b o)
       → nth 𝓤 H A n (put 𝓤 H A k (Entry 𝓤 H E x (vptr b o)) Γ) ≡ nth 𝓤 H A n Γ → nth 𝓤 H A k (put 𝓤 H A k (Entry 𝓤 H E x (vptr b o)) Γ) ≡ Entry 𝓤 H E x (vptr b o)
-      → nth 𝓤 H A j (put 𝓤 H A k (Entry 𝓤 H E x (vptr b o)) Γ) ≡ Empty 𝓤 H E y → Fits 𝓤 H E y (sliceVal (b, o) m)
+      → nth 𝓤 H A j (put 𝓤 H A k (Entry 𝓤 H E x (vptr b o)) Γ) ≡ Empty 𝓤 H E y → Takes 𝓤 H E y (sliceVal (b, o) m)
       → Step K W (put 𝓤 H A j (Entry 𝓤 H E y (sliceVal (b, o) m)) (put 𝓤 H A k (Entry 𝓤 H E x (vptr b o)) Γ)) (runs C Λ E rest q)
       Γ (runs C Λ E (seq (assign (place x []) (addrOf (place i (field 0 ∷ deref τ ∷ []))))
       (seq (assign (place y []) (aggregate (copy (place x []) ∷ copy (place i (field 1 ∷ [])) ∷ []))) rest)) q)

@@ -27,7 +27,7 @@ add-result c =
 returns : tie.Need-returns
 returns c =
     let s = c .before .before in
-    ap (λ (n : ℕ). s .args .l .«data_start» + s .args .line * n) (c .line-length-in .ensures)
+    ap (λ (n : ℕ). s .args .layout .«data_start» + s .args .line * n) (c .line-length-in .ensures)
 
 pub line-at-spec : {M : Type 1} → statement M
 line-at-spec = tie.close (tie.spec cast-result line-length-in-requires mul-result add-result returns)

@@ -11,7 +11,7 @@ use Rattle.area_places.proofs.line_start.Statement.{statement}
 use Rattle.area_places.proofs.line_start.Tie as tie
 
 verdict : (c : tie.After-check2)
-    → let a = c .before .before .before .before .args in c .check2 .result ≡ firstFault (lineRules (a .l) (a .line))
+    → let a = c .before .before .before .before .args in c .check2 .result ≡ firstFault (lineRules (a .layout) (a .line))
 unfolding lineRules chained
 verdict c = by-table _ (rw (c .check2 .ensures, c .before .before .check .ensures, c .before .before .before .area-bounded .ensures))
 

@@ -26,7 +26,7 @@ cast-result c = search needs
 add-result : tie.Need-add-result
 add-result c =
     let s = c .before .before .before in
-    let line : c .before .line-at .result ≡ lineStart (s .args .l) (s .args .line) = c .before .line-at .ensures in
+    let line : c .before .line-at .result ≡ lineStart (s .args .layout) (s .args .line) = c .before .line-at .ensures in
     omega (arith, c .struct-known2 .given, line, lines-most (s .pre .0) (s .args .line) (s .pre .1 .0) (omega arith))
 
 cast-result-2 : tie.Need-cast-result-2
@@ -40,7 +40,7 @@ mul-result c =
 add-result-2 : tie.Need-add-result-2
 add-result-2 c =
     let s = c .before .before .before .before in
-    let line : c .before .before .line-at .result ≡ lineStart (s .args .l) (s .args .line) = c .before .before .line-at .ensures in
+    let line : c .before .before .line-at .result ≡ lineStart (s .args .layout) (s .args .line) = c .before .before .line-at .ensures in
     omega (
       arith,
       c .struct-known3 .given,

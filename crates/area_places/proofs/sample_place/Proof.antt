@@ -34,7 +34,7 @@ sample-address-requires : tie.Need-sample-address-requires
 sample-address-requires c κs =
     let s = c .before .before .before .before .before .before .before in
     let (bounds, (line, element)) = samples-hold _ _ _ .0 (pass-hold _ (sym (c .before .before .sample-verdict .ensures) ∙ c .enum-told .given .1)) in
-    let slot = named-slot-inside (s .args .l) (s .args .which) _ (sym (c .before .before .before .before .before .before .slot-of .ensures) ∙ ap numberSays (c .before .before .before .before .slot .given .1)) in
+    let slot = named-slot-inside (s .args .layout) (s .args .which) _ (sym (c .before .before .before .before .before .before .slot-of .ensures) ∙ ap numberSays (c .before .before .before .before .slot .given .1)) in
     (bounds, (omega arith, (omega arith, omega arith)))
 
 cast-t13 : tie.Need-cast-t13
@@ -52,7 +52,7 @@ returns-2 c =
 returns-3 : tie.Need-returns-3
 unfolding samplePlace
 returns-3 c =
-    let l = c .before .before .before .before .before .before .before .before .before .args .l in
+    let l = c .before .before .before .before .before .before .before .before .before .args .layout in
     rw (← c .before .before .before .before .before .before .before .before .slot-of .ensures, c .before .before .before .before .before .before .slot .given .1, sym (c .before .before .before .before .sample-verdict .ensures) ∙ c .before .before .enum-told .given .1)
     (ap (λ (a : ℕ). gives (place a (l .width))) (c .before .sample-address .ensures))
 

@@ -29,7 +29,7 @@ mul-t8 : tie.Need-mul-t8
 mul-t8 c =
     let s = c .before .before .before .before in
     let h = points-hold _ _ _ .0 (pass-hold _ (sym (c .before .before .before .point-verdict .ensures) ∙ c .before .enum-told .given .1)) in
-    let word : c .point-word .result ≡ pointWord (s .args .l) (s .args .row) (s .args .column) = c .point-word .ensures in
+    let word : c .point-word .result ≡ pointWord (s .args .layout) (s .args .row) (s .args .column) = c .point-word .ensures in
     omega (arith, word, s .good .0, s .fits .row, points-most (h .0) (s .args .column) (h .1 .column-to))
 
 returns : tie.Need-returns

@@ -29,7 +29,7 @@ mul-t9 : tie.Need-mul-t9
 mul-t9 c =
     let s = c .before .before .before .before in
     let h = fields-hold _ _ _ _ .0 (pass-hold _ (sym (c .before .before .before .field-verdict .ensures) ∙ c .before .enum-told .given .1)) in
-    let word : c .field-word .result ≡ fieldWord (s .args .l) (s .args .row) (s .args .column) (s .args .position) = c .field-word .ensures in
+    let word : c .field-word .result ≡ fieldWord (s .args .layout) (s .args .row) (s .args .column) (s .args .position) = c .field-word .ensures in
     omega (arith, word, field-most (h .0) (h .1) (omega (arith, s .good .0)) (omega (arith, s .good .0)) (omega (arith, s .fits .position)))
 
 returns : tie.Need-returns

@@ -27,9 +27,9 @@ returns : tie.Need-returns
 unfolding fieldRules chained
 returns c =
     let a = c .before .before .before .before .args in
-    by-chain _ (rule (within 1 (fieldsOf (a .l) (a .row) (a .column)) (a .position)) 7 0 ∷ [])
+    by-chain _ (rule (within 1 (fieldsOf (a .layout) (a .row) (a .column)) (a .position)) 7 0 ∷ [])
     (rw (c .check .ensures, c .before .within .ensures, c .before .before .fields-of .ensures, c .before .before .before .part-verdict .ensures))
-    ∙ sym (firstFault-append (partRules (a .l) (a .row) (a .column)) _)
+    ∙ sym (firstFault-append (partRules (a .layout) (a .row) (a .column)) _)
 
 pub field-verdict-spec : {M : Type 1} → statement M
 field-verdict-spec =

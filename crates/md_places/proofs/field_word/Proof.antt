@@ -21,14 +21,14 @@ cast-result c = search needs
 add-result : tie.Need-add-result
 add-result c =
     let s = c .before in
-    let start : c .part-word .result ≡ partWord (s .args .l) (s .args .row) (s .args .column) = c .part-word .ensures in
+    let start : c .part-word .result ≡ partWord (s .args .layout) (s .args .row) (s .args .column) = c .part-word .ensures in
     let is = s .pre .1 in
     omega (arith, start, s .fits .position, part-most (s .pre .0) (s .args .row) (s .args .column) (is .row) (is .column) (omega (arith, s .good .0)) (omega (arith, s .good .0)))
 
 returns : tie.Need-returns
 returns c =
     let a = c .before .args in
-    ap (λ (w : ℕ). w + (a .position - 1)) (c .part-word .ensures) ∙ sym (field-in-part (a .l) (a .row) (a .column) (a .position))
+    ap (λ (w : ℕ). w + (a .position - 1)) (c .part-word .ensures) ∙ sym (field-in-part (a .layout) (a .row) (a .column) (a .position))
 
 pub field-word-spec : {M : Type 1} → statement M
 field-word-spec = tie.close (tie.spec part-word-requires sub-result cast-result add-result returns)
