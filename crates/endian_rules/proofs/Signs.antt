@@ -134,6 +134,10 @@ minus-pos (suc k) = ap (λ (x : ℕ). negsuc (suc x)) (zero-add k)
 minus-neg : (k : ℕ) → negsuc 0 -ℤ negsuc k ≡ pos k
 minus-neg k = rw (le-ltb (suc k) 1 (omega arith)) (ap pos (omega arith))
 
+-- -1 less a number below 2 ^ 31 is a word
+pub complement-fits : (n : ℕ) → n < 2 ^ 31 → SFits w32 (negsuc 0 -ℤ toZ w32 n)
+complement-fits n l = subst (SFits w32) (sym (ap (λ (z : ℤ). negsuc 0 -ℤ z) (toZ-pos w32 l) ∙ minus-pos n)) (record { sfits = l })
+
 -- the word of 2 ^ 31 or more
 pub complement : (n : ℕ) → 2 ^ 31 ≤ n → n < 2 ^ 32 → negsuc 0 -ℤ toZ w32 (4294967295 - n) ≡ toZ w32 n
 complement n h l =

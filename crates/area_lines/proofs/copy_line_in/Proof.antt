@@ -38,7 +38,7 @@ cast-t15 c = search needs
 copy-numbers-requires : tie.Need-copy-numbers-requires
 copy-numbers-requires c κs =
     let s = c .before .before .before .before .before .before .before .before .before .before in
-    line-samples-inside (now (s .args .file)) (s .args .l) (s .pre) (s .args .line) (s .args .which) _
+    line-samples-inside (now (s .args .file)) (s .args .l) (s .pre) _ _ _
     (sym (c .before .before .before .before .before .before .before .sample-place .ensures)
     ∙ ap placeSays (c .before .before .before .before .before .place .given .1))
 

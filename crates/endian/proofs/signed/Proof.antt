@@ -1,14 +1,14 @@
 -- `endian::signed` meets its contract: from 2 ^ 31 on, -1 less the complement is the word.
 -- Assumes nothing.
-use mathlib.Core.Path.{_≡_, sym, ap, subst, _∙_}
+use mathlib.Core.Path.{_≡_, ap, _∙_}
 use lib.IntN.{ℤ, negsuc, _-ℤ_}
 use mir.Syntax.{w32}
-use mir.Val.{SFits, toZ, ofZ}
+use mir.Val.{toZ, ofZ}
 use mir.Facts.{sfits-toZ, toZ-ofZ}
 use Prim.Native.Nat.{_-_}
 use native.Mathlib.Omega.{arith}
 use borrow.Author.Needs.{needs}
-use Rattle.endian_rules.proofs.Signs.{complement}
+use Rattle.endian_rules.proofs.Signs.{complement, complement-fits}
 use Rattle.endian.proofs.signed.Statement.{statement}
 use Rattle.endian.proofs.signed.Tie as tie
 
@@ -26,7 +26,7 @@ cast-result-2 : tie.Need-cast-result-2
 cast-result-2 c = search needs
 
 sub-result-2 : tie.Need-sub-result-2
-sub-result-2 c = subst (SFits w32) (sym (computed c)) (sfits-toZ (c .before .fits .n))
+sub-result-2 c = complement-fits _ (cast-result-2 c .sfits)
 
 returns : tie.Need-returns
 returns c = search needs

@@ -1,5 +1,6 @@
 -- `grid_copies::copy_columns` meets its contract: the columns are lines of words at equal distances, all inside the file.
 -- Assumes nothing.
+use native.Mathlib.Omega.{arith}
 use denote.Ref.{now}
 use Rattle.grid_part_rules.proofs.Lines.{copied-same, columns-lines, columns-copyable}
 use borrow.Author.Needs.{needs}
@@ -28,7 +29,9 @@ cast-t12 : tie.Need-cast-t12
 cast-t12 c = search needs
 
 copy-lines-requires : tie.Need-copy-lines-requires
-copy-lines-requires c κs = columns-copyable _ _ (c .before .before .before .before .before .before .pre)
+copy-lines-requires c κs =
+    let of = columns-copyable _ _ (c .before .before .before .before .before .before .pre) in
+    (of .0, (of .1 .0, λ k i line word. omega (arith, of .1 .1 k i line word)))
 
 same-length : tie.Need-same-length
 same-length c = search needs
