@@ -45,13 +45,13 @@ pub record Store : Type 0 where
 
 -- the name of the value that a store is asked to set
 abbrev pub valueNameOf : Request → ValueName
-valueNameOf (sample i e c n) = Sample i e c
+valueNameOf (sample i e b n) = Sample i e b
 valueNameOf (point r c v) = Point r c
 valueNameOf (field r c k v) = Field r c k
 
 -- the number that a store is asked to put there
 abbrev pub requestNumber : Request → Number
-requestNumber (sample i e c n) = unsigned n
+requestNumber (sample i e b n) = unsigned n
 requestNumber (point r c v) = signed v
 requestNumber (field r c k v) = signed v
 
@@ -84,7 +84,7 @@ whenFresh s = putIn (layoutOrder (s .layout)) (bitsOf (requestNumber (s .request
 
 -- what the single read of a store's place with its layout answers
 abbrev pub readBack : List ℕ → Layout → Request → Answer Number
-readBack f l (sample i e c n) = mapped unsigned (readSample f l i e c)
+readBack f l (sample i e b n) = mapped unsigned (readSample f l i e b)
 readBack f l (point r c v) = mapped signed (readWord f l (Point r c))
 readBack f l (field r c k v) = mapped signed (readWord f l (Field r c k))
 
@@ -119,7 +119,7 @@ storesIn f s = outcome f (planOf f s)
 
 -- what a store of a number into a sample is answered, and the file that it leaves
 abbrev pub storeSample : List ℕ → Layout → ℕ → ℕ → SlotOrBand → ℕ → Done × List ℕ
-storeSample f l i e c n = storesIn f (record { layout = l; request = sample i e c n })
+storeSample f l i e b n = storesIn f (record { layout = l; request = sample i e b n })
 
 -- what a store of a signed word into a point of a grid is answered, and the file that it leaves
 abbrev pub storePoint : List ℕ → Layout → ℕ → ℕ → ℤ → Done × List ℕ

@@ -13,6 +13,6 @@ use Rattle.value_rules.specs.declared.ValueName.the-variants.{Sample, Po
 
 -- the place of a named value by a layout, or the refusal
 unfoldable pub placeOf : Layout → ValueName → Answer Place
-placeOf l (Sample i e c) = andThen (asArea l) (λ a. samplePlace a i e c)
+placeOf l (Sample i e b) = andThen (asArea l) (λ a. samplePlace a i e b)
 placeOf l (Point r c) = andThen (asGrid l) (λ g. pointPlace g r c)
 placeOf l (Field r c f) = andThen (asMd l) (λ m. fieldPlace m r c f)

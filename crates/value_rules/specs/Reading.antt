@@ -22,11 +22,11 @@ placeIn f l x = found (λ m. placeOf m x) f l
 
 -- what the single read of a sample answers: the number at its place, "unsigned, W11 bytes in the file's order"
 unfoldable pub readSample : List ℕ → Layout → ℕ → ℕ → SlotOrBand → Answer ℕ
-readSample f l i e c = mapped (λ p. numberAt (layoutOrder l) (p .width) f (p .address)) (placeIn f l (Sample i e c))
+readSample f l i e b = mapped (λ p. numberAt (layoutOrder l) (p .width) f (p .address)) (placeIn f l (Sample i e b))
 
 -- the name is that of a value that is a signed word: a point or a field
 abbrev pub IsWord : ValueName → Type 0
-IsWord (Sample i e c) = ⊥
+IsWord (Sample i e b) = ⊥
 IsWord (Point r c) = Unit {0}
 IsWord (Field r c k) = Unit {0}
 
