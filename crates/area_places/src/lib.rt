@@ -24,7 +24,10 @@ fn area_bounded(layout: AreaLayout) -> bool
     ensures { λ r. ⌜ r ≡ areaBounded layout ⌝ }
 {
     let samples = and(layout.width <= 4, layout.bands <= 64);
-    and(layout.lines <= 65535, and(layout.elements <= 65535, samples))
+    and(
+        layout.lines <= 65535,
+        and(layout.elements <= 65535, samples),
+    )
 }
 
 // The line length, in bytes.
@@ -32,7 +35,8 @@ fn line_length_in(layout: AreaLayout) -> usize
     requires { ⌜ AreaBounds layout ⌝ }
     ensures { λ r. ⌜ r ≡ lineLengthIn layout ⌝ }
 {
-    layout.prefix as usize + layout.bands as usize * layout.elements as usize * layout.width as usize
+    layout.prefix as usize
+        + layout.bands as usize * layout.elements as usize * layout.width as usize
 }
 
 // The byte at which a line begins, with its prefix.

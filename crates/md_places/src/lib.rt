@@ -71,7 +71,11 @@ fn fields_of(layout: MdLayout, row: u32, column: u32) -> u32
     if row == 0 {
         if column == 0 { 400 } else { layout.column_keys }
     } else {
-        if column == 0 { layout.row_keys } else { layout.data_keys }
+        if column == 0 {
+            layout.row_keys
+        } else {
+            layout.data_keys
+        }
     }
 }
 

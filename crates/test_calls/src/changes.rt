@@ -1,0 +1,231 @@
+// The bytes of a file: made, set by words, stored into, compared with a copy; grids deleted from it and added to it.
+use crate::answers::NEXT;
+use crate::answers::PLUS;
+use crate::answers::print;
+use crate::answers::put;
+use crate::answers::put_added;
+use crate::answers::put_size;
+use crate::answers::put_store;
+use crate::answers::put_table;
+use crate::asks::STORE_BAND;
+use crate::asks::STORE_SAMPLE;
+use crate::asks::slot_or_band;
+use crate::words::Number;
+use crate::words::Numbers;
+use crate::words::number_in;
+use endian::signed;
+use endian_rules::Order;
+use endian_steps::read_word;
+use endian_steps::write_number;
+use grid_updates_by_value::Addition;
+use grid_updates_by_value::Deletion;
+use grid_updates_by_value::add_with_table;
+use grid_updates_by_value::delete_with_table;
+use layout_rules::Layout;
+use stores::store_field;
+use stores::store_point;
+use stores::store_sample;
+
+// `store-point ROW COLUMN NUMBER`. `store-field ROW COLUMN POSITION NUMBER` has the next number, and is the last word that stores.
+const STORE_POINT: u32 = 24;
+
+// Stores a number, with a layout, and writes what came back.
+pub fn store(file: &mut [u8], layout: Layout, call: u32, n: Numbers) {
+    match call {
+        STORE_SAMPLE..=STORE_BAND => put_store(store_sample(
+            file,
+            layout,
+            n.a,
+            n.b,
+            slot_or_band(call, n.c),
+            n.d,
+        )),
+        STORE_POINT => put_store(store_point(file, layout, n.a, n.b, signed(n.c))),
+        _ => put_store(store_field(file, layout, n.a, n.b, n.c, signed(n.d))),
+    }
+}
+
+// Writes what deleting a grid answers: how many free stretches there are, and each of them.
+fn put_deletion(deletion: Deletion) {
+    let answer = deletion.answer;
+    let table = deletion.table;
+    put_size(answer);
+    put_table(table);
+}
+
+// Deletes the grid of a number: `delete NUMBER`.
+pub fn delete(file: &mut [u8], order: Order, number: u32) {
+    put_deletion(delete_with_table(file, order, number));
+}
+
+// Writes what adding a grid answers: its number and address, how many free stretches there are, and each of them.
+fn put_addition(addition: Addition) {
+    let answer = addition.answer;
+    let table = addition.table;
+    put_added(answer);
+    put_table(table);
+}
+
+// The bytes that headers are made of: byte i is i + 1 modulo 256.
+fn header_bytes() -> [u8; 300] {
+    let mut header = [0u8; 300];
+    let mut i = 0;
+    while i < 300 {
+        header[i] = ((i + 1) % 256) as u8;
+        i += 1;
+    }
+    header
+}
+
+// Values from a first one on, each one more than the one before, modulo 2^32.
+fn values_from(first: u32) -> [i32; 100] {
+    let mut values = [0i32; 100];
+    let mut n = first;
+    let mut i = 0;
+    while i < 100 {
+        values[i] = signed(n);
+        n = std::num::wrapping_add_u32(n, 1);
+        i += 1;
+    }
+    values
+}
+
+// Adds a grid, with the first bytes of a header and the first of some values; adds none where they are too few.
+fn add_of(file: &mut [u8], order: Order, n: Numbers, header: &[u8], values: &[i32]) {
+    let count = n.d as usize;
+    let bytes = n.e as usize;
+    if count <= values.len() {
+        if bytes <= header.len() {
+            put_addition(add_with_table(
+                file,
+                order,
+                &header[0..bytes],
+                n.a,
+                n.b,
+                &values[0..count],
+            ));
+        }
+    }
+}
+
+// Adds a grid: `add ROWS COLUMNS FIRST VALUES BYTES`, with so many values, at most 100, which are FIRST, FIRST + 1 and so on, and with a header of so many bytes, at most
+// 300, of which byte i is i + 1 modulo 256.
+pub fn add(file: &mut [u8], order: Order, n: Numbers) {
+    let header = header_bytes();
+    let values = values_from(n.c);
+    add_of(file, order, n, &header, &values);
+}
+
+// A word of the file, counted from 0, or 0 where the file has it not.
+pub fn word_at(file: &[u8], order: Order, k: u32) -> u32 {
+    let i = k as usize;
+    if i < file.len() / 4 {
+        return read_word(order, file, i);
+    }
+    0
+}
+
+// Sets word k, counted from 0, where the file has it.
+pub fn set_word(file: &mut [u8], order: Order, k: u32, n: u32) {
+    let i = k as usize;
+    if i < file.len() / 4 {
+        write_number(order, 4, file, 4 * i, n);
+    }
+}
+
+// Sets the word of a number of a line, where the line has it. Words are counted from a first number on.
+fn set_named(file: &mut [u8], order: Order, first: u32, k: Number, n: Number) {
+    if k.present {
+        set_word(
+            file,
+            order,
+            std::num::wrapping_sub_u32(k.word, first),
+            n.word,
+        );
+    }
+}
+
+// Sets the words of a line, each by its number and its value: `words K=N ..`. Words are counted from a first number on.
+pub fn set_words(file: &mut [u8], order: Order, first: u32, line: &[u8]) {
+    let mut i = 0;
+    while i < line.len() / 2 {
+        let k = number_in(line, 2 * i);
+        let n = number_in(line, 2 * i + 1);
+        set_named(file, order, first, k, n);
+        i += 1;
+    }
+}
+
+// Byte i of an AREA file that is made.
+fn area_byte(i: usize) -> u8 {
+    if i < 256 { 0 } else { (i % 256) as u8 }
+}
+
+// Makes an AREA file: its directory holds 0, and each byte i behind it i modulo 256.
+pub fn fill_bytes(file: &mut [u8]) {
+    let mut i = 0;
+    while i < file.len() {
+        file[i] = area_byte(i);
+        i += 1;
+    }
+}
+
+// Makes a file of another kind: each word k holds k.
+pub fn fill_words(file: &mut [u8], order: Order) {
+    let mut k: u32 = 0;
+    while k < 4121 {
+        set_word(file, order, k, k);
+        k += 1;
+    }
+}
+
+// Copies the first n bytes, or as many of them as both have.
+pub fn copy_bytes(n: usize, from: &[u8], to: &mut [u8]) {
+    let mut i = 0;
+    while i < n {
+        if from.len() <= i {
+            return;
+        }
+        if to.len() <= i {
+            return;
+        }
+        to[i] = from[i];
+        i += 1;
+    }
+}
+
+// Writes a byte of the file where it differs from that of the copy: its index and its value. Answers whether it does.
+fn put_difference(index: usize, byte: u8, copied: u8) -> bool {
+    if byte == copied {
+        return false;
+    }
+    put(NEXT, index as u64);
+    put(PLUS, byte as u64);
+    true
+}
+
+// Writes each of the first n bytes of the file that differs from that of the copy. Answers whether one does.
+fn put_differences(n: usize, file: &[u8], copy: &[u8]) -> bool {
+    let mut found = false;
+    let mut i = 0;
+    while i < n {
+        if file.len() <= i {
+            return found;
+        }
+        if copy.len() <= i {
+            return found;
+        }
+        if put_difference(i, file[i], copy[i]) {
+            found = true;
+        }
+        i += 1;
+    }
+    found
+}
+
+// Writes what differs, or that nothing does.
+pub fn compare(n: usize, file: &[u8], copy: &[u8]) {
+    if !put_differences(n, file, copy) {
+        print(b": none");
+    }
+}
