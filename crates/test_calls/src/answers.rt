@@ -21,8 +21,11 @@ pub const FIRST: u8 = 58;
 // The mark before each number behind the first.
 pub const NEXT: u8 = 44;
 
-// The mark before the length of a stretch, behind its start, and before the value of a byte, behind its index.
-pub const PLUS: u8 = 43;
+// The mark before the length of a stretch, behind its start.
+const PLUS: u8 = 43;
+
+// The mark before the value of a byte, behind its index.
+pub const EQUALS: u8 = 61;
 
 // Writes text.
 pub fn print(text: &[u8]) {

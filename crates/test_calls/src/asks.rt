@@ -31,73 +31,73 @@ use reads::read_point;
 use reads::read_sample;
 use refusal_rules::SizeAnswer;
 
-// `sample LINE ELEMENT SLOT`, the first of the words that read.
+// The word `sample LINE ELEMENT SLOT`, the first of the words that read.
 pub const SAMPLE: u32 = 0;
 
-// `band-sample LINE ELEMENT BAND`.
+// The word `band-sample LINE ELEMENT BAND`.
 const BAND_SAMPLE: u32 = 1;
 
-// `line LINE SLOT PLACES`.
+// The word `line LINE SLOT PLACES`.
 const LINE: u32 = 2;
 
-// `band-line LINE BAND PLACES`.
+// The word `band-line LINE BAND PLACES`.
 const BAND_LINE: u32 = 3;
 
-// `band-slot BAND`.
+// The word `band-slot BAND`.
 const BAND_SLOT: u32 = 4;
 
-// `dir`.
+// The word `dir`, for a block, as the five that follow.
 const DIR: u32 = 5;
 
-// `nav`.
+// The word `nav`.
 const NAV: u32 = 6;
 
-// `cal`.
+// The word `cal`.
 const CAL: u32 = 7;
 
-// `aux`.
+// The word `aux`.
 const AUX: u32 = 8;
 
-// `data`.
+// The word `data`.
 const DATA: u32 = 9;
 
-// `audit`.
+// The word `audit`.
 const AUDIT: u32 = 10;
 
-// `validity-code LINE`.
+// The word `validity-code LINE`, for a region of a line's prefix, as the three that follow.
 const VALIDITY: u32 = 11;
 
-// `documentation LINE`.
+// The word `documentation LINE`.
 const DOCUMENTATION: u32 = 12;
 
-// `calibration LINE`.
+// The word `calibration LINE`.
 const CALIBRATION: u32 = 13;
 
-// `band-list LINE`.
+// The word `band-list LINE`.
 const BAND_LIST: u32 = 14;
 
-// `point ROW COLUMN`.
+// The word `point ROW COLUMN`.
 const POINT: u32 = 15;
 
-// `header`.
+// The word `header`.
 const HEADER: u32 = 16;
 
-// `field ROW COLUMN POSITION`.
+// The word `field ROW COLUMN POSITION`.
 const FIELD: u32 = 17;
 
-// `key NUMBER BYTES`: the name is the first bytes of the four bytes of a number in big order with four zeros behind them.
+// The word `key NUMBER BYTES`: the name is the first bytes of the four bytes of a number in big order with four zeros behind them.
 const KEY: u32 = 18;
 
-// `by-columns PLACES`.
+// The word `by-columns PLACES`.
 const BY_COLUMNS: u32 = 19;
 
-// `by-rows PLACES`. `record PLACES ROW COLUMN` has the next, and is the last word that reads.
+// The word `by-rows PLACES`. `record PLACES ROW COLUMN` has the next, and is the last word that reads.
 const BY_ROWS: u32 = 20;
 
-// `store-sample LINE ELEMENT SLOT NUMBER`, the first word that stores.
+// The word `store-sample LINE ELEMENT SLOT NUMBER`, the first word that stores.
 pub const STORE_SAMPLE: u32 = 22;
 
-// `store-band LINE ELEMENT BAND NUMBER`.
+// The word `store-band LINE ELEMENT BAND NUMBER`.
 pub const STORE_BAND: u32 = 23;
 
 // The slot or band that a word speaks of.
@@ -110,7 +110,7 @@ pub fn slot_or_band(call: u32, k: u32) -> SlotOrBand {
     }
 }
 
-// A slot or band of a line, copied.
+// Copies a slot or band of a line into the first n places of an output, and writes what came back and the whole output. Does nothing where the output has fewer places.
 fn ask_line(file: &[u8], layout: Layout, line: u32, which: SlotOrBand, n: usize, out: &mut [u32]) {
     if n <= out.len() {
         put_size(copy_line(file, layout, line, which, &mut out[0..n]));
@@ -118,7 +118,7 @@ fn ask_line(file: &[u8], layout: Layout, line: u32, which: SlotOrBand, n: usize,
     }
 }
 
-// Copies a slot or band of a line.
+// Copies a slot or band of a line into the first n of 8 places that each hold 9999.
 fn ask_line_of(file: &[u8], layout: Layout, line: u32, which: SlotOrBand, n: u32) {
     let mut out = [9999u32; 8];
     ask_line(file, layout, line, which, n as usize, &mut out);
@@ -136,7 +136,7 @@ fn block_of(call: u32) -> Block {
     }
 }
 
-// A block.
+// Asks where a block lies, and for its bytes.
 fn ask_block(file: &[u8], layout: Layout, block: Block) {
     put_span(block_span(file, layout, block));
     put_ends(block_bytes(file, layout, block));
@@ -152,13 +152,13 @@ fn region_of(call: u32) -> Region {
     }
 }
 
-// A region of a line's prefix.
+// Asks where a region of a line's prefix lies, and for its bytes.
 fn ask_region(file: &[u8], layout: Layout, line: u32, region: Region) {
     put_span(region_span(file, layout, line, region));
     put_ends(region_bytes(file, layout, line, region));
 }
 
-// Calls of AREA files.
+// Asks the call of a word that reads an AREA file, and writes what came back.
 fn ask_area(file: &[u8], layout: Layout, call: u32, n: Numbers) {
     match call {
         SAMPLE..=BAND_SAMPLE => put_number(read_sample(
@@ -175,27 +175,27 @@ fn ask_area(file: &[u8], layout: Layout, call: u32, n: Numbers) {
     }
 }
 
-// The header of a grid.
+// Asks where the header of a grid lies, and for its bytes.
 fn ask_header(file: &[u8], layout: Layout) {
     put_span(header_span(file, layout));
     put_ends(header_bytes(file, layout));
 }
 
-// A key, by the first bytes of a name.
+// Finds a key by the first n bytes of a name. Does nothing where the name has fewer.
 fn ask_key(file: &[u8], layout: Layout, name: &[u8], n: usize) {
     if n <= name.len() {
         put_number(find_key(file, layout, &name[0..n]));
     }
 }
 
-// A key, by the first bytes of a name that is a number.
+// Finds a key by the first n bytes of a name that is the four bytes of a number in big order with four zeros behind them.
 fn ask_key_of(file: &[u8], layout: Layout, number: u32, n: u32) {
     let mut name = [0u8; 8];
     write_number(Order::Big, 4, &mut name, 0, number);
     ask_key(file, layout, &name, n as usize);
 }
 
-// A grid or a record, copied.
+// Copies a grid, by columns or by rows, or the record of a row and a column.
 fn copy_words(
     file: &[u8],
     layout: Layout,
@@ -211,7 +211,8 @@ fn copy_words(
     }
 }
 
-// A grid or a record, copied into the first places of an output.
+// Copies a grid or a record into the first places of an output, as many as the first number says, and writes what came back and the whole output. Does nothing where the
+// output has fewer places.
 fn ask_copy(file: &[u8], layout: Layout, call: u32, n: Numbers, out: &mut [i32]) {
     let end = n.a as usize;
     if end <= out.len() {
@@ -220,7 +221,7 @@ fn ask_copy(file: &[u8], layout: Layout, call: u32, n: Numbers, out: &mut [i32])
     }
 }
 
-// Copies a grid or a record.
+// Copies a grid or a record into the first of 8 places that each hold 9999.
 fn ask_copy_of(file: &[u8], layout: Layout, call: u32, n: Numbers) {
     let mut out = [9999i32; 8];
     ask_copy(file, layout, call, n, &mut out);

@@ -1,6 +1,6 @@
 // The bytes of a file: made, set by words, stored into, compared with a copy; grids deleted from it and added to it.
+use crate::answers::EQUALS;
 use crate::answers::NEXT;
-use crate::answers::PLUS;
 use crate::answers::print;
 use crate::answers::put;
 use crate::answers::put_added;
@@ -26,7 +26,7 @@ use stores::store_field;
 use stores::store_point;
 use stores::store_sample;
 
-// `store-point ROW COLUMN NUMBER`. `store-field ROW COLUMN POSITION NUMBER` has the next number, and is the last word that stores.
+// The word `store-point ROW COLUMN NUMBER`. `store-field ROW COLUMN POSITION NUMBER` has the next number, and is the last word that stores.
 const STORE_POINT: u32 = 24;
 
 // Stores a number, with a layout, and writes what came back.
@@ -200,7 +200,7 @@ fn put_difference(index: usize, byte: u8, copied: u8) -> bool {
         return false;
     }
     put(NEXT, index as u64);
-    put(PLUS, byte as u64);
+    put(EQUALS, byte as u64);
     true
 }
 

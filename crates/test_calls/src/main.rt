@@ -45,49 +45,49 @@ use words::end_of;
 use words::numbers_in;
 use words::word_number;
 
-// `store-field`, the last word of a call that is asked with a layout: the one that opening the file gave where it last gave one.
+// The word `store-field`, the last word of a call that is asked with a layout: the one that opening the file gave where it last gave one.
 const STORE_FIELD: u32 = 25;
 
-// `delete NUMBER`.
+// The word `delete NUMBER`.
 const DELETE: u32 = 26;
 
-// `add ROWS COLUMNS FIRST VALUES BYTES`.
+// The word `add ROWS COLUMNS FIRST VALUES BYTES`.
 const ADD: u32 = 27;
 
-// `word K` writes word K, counted from 0.
+// The word `word K` writes word K, counted from 0.
 const WORD: u32 = 28;
 
-// `date WORD`.
+// The word `date WORD`.
 const DATE: u32 = 29;
 
-// `time WORD`.
+// The word `time WORD`.
 const TIME: u32 = 30;
 
-// `words K=N ..` sets words, each by its number and its value. AREA counts words from 1, the others from 0.
+// The word `words K=N ..` sets words, each by its number and its value. AREA counts words from 1, the others from 0.
 const WORDS: u32 = 31;
 
-// `with K N NUMBER` opens the file with word K as N, where it is a GRID file the grid of a number.
+// The word `with K N NUMBER` opens the file with word K as N, where it is a GRID file the grid of a number.
 const WITH: u32 = 32;
 
-// `area LENGTH` makes an AREA file of a length in bytes, at most 16,484. Its directory holds 0, and each byte i behind it i modulo 256: a value shows where it was read.
+// The word `area LENGTH` makes an AREA file of a length in bytes, at most 16,484. Its directory holds 0, and each byte i behind it i modulo 256: a value shows where it was read.
 const AREA: u32 = 33;
 
-// `grid LENGTH` makes a GRID file likewise. Each word k holds k, and the bytes behind the last whole word what they held.
+// The word `grid LENGTH` makes a GRID file likewise. Each word k holds k, and the bytes behind the last whole word what they held.
 const GRID: u32 = 34;
 
-// `md LENGTH` makes an MD file likewise.
+// The word `md LENGTH` makes an MD file likewise.
 const MD: u32 = 35;
 
-// `open NUMBER` opens the file, where it is a GRID file the grid of a number.
+// The word `open NUMBER` opens the file, where it is a GRID file the grid of a number.
 const OPEN: u32 = 36;
 
-// `keep` keeps a copy of the file, in place of the one before.
+// The word `keep` keeps a copy of the file, in place of the one before.
 const KEEP: u32 = 37;
 
-// `restore` puts the bytes of the copy back, as many as both have.
+// The word `restore` puts the bytes of the copy back, as many as both have.
 const RESTORE: u32 = 38;
 
-// `differences` writes each byte of the file that differs from the copy.
+// The word `differences` writes each byte of the file that differs from the copy.
 const DIFFERENCES: u32 = 39;
 
 // What a script is at: the kind of the file, as the word that makes it, and its length; the kind, the grid number and the length of the file that opening last gave a
