@@ -1,12 +1,12 @@
 // The calls that read a file with a layout. An output that a copy is lent is the first places, as many as the line says, of 8 places that each hold 9999; all 8 are
 // written.
-use crate::answers::put_ends;
-use crate::answers::put_number;
-use crate::answers::put_numbers;
-use crate::answers::put_signed;
-use crate::answers::put_size;
-use crate::answers::put_span;
-use crate::answers::put_words;
+use crate::answers::say_ends;
+use crate::answers::say_number;
+use crate::answers::say_numbers;
+use crate::answers::say_signed;
+use crate::answers::say_size;
+use crate::answers::say_span;
+use crate::answers::say_words;
 use crate::words::Numbers;
 use area_blocks::block_bytes;
 use area_blocks::block_span;
@@ -113,8 +113,8 @@ pub fn slot_or_band(call: u32, k: u32) -> SlotOrBand {
 // Copies a slot or band of a line into the first n places of an output, and writes what came back and the whole output. Does nothing where the output has fewer places.
 fn ask_line(file: &[u8], layout: Layout, line: u32, which: SlotOrBand, n: usize, out: &mut [u32]) {
     if n <= out.len() {
-        put_size(copy_line(file, layout, line, which, &mut out[0..n]));
-        put_numbers(out);
+        say_size(copy_line(file, layout, line, which, &mut out[0..n]));
+        say_numbers(out);
     }
 }
 
@@ -125,7 +125,7 @@ fn ask_line_of(file: &[u8], layout: Layout, line: u32, which: SlotOrBand, n: u32
 }
 
 // The block of a word.
-fn block_of(call: u32) -> Block {
+fn block_named(call: u32) -> Block {
     match call {
         DIR => Block::Dir,
         NAV => Block::Nav,
@@ -138,12 +138,12 @@ fn block_of(call: u32) -> Block {
 
 // Asks where a block lies, and for its bytes.
 fn ask_block(file: &[u8], layout: Layout, block: Block) {
-    put_span(block_span(file, layout, block));
-    put_ends(block_bytes(file, layout, block));
+    say_span(block_span(file, layout, block));
+    say_ends(block_bytes(file, layout, block));
 }
 
 // The region of a word.
-fn region_of(call: u32) -> Region {
+fn region_named(call: u32) -> Region {
     match call {
         VALIDITY => Region::Validity,
         DOCUMENTATION => Region::Documentation,
@@ -154,14 +154,14 @@ fn region_of(call: u32) -> Region {
 
 // Asks where a region of a line's prefix lies, and for its bytes.
 fn ask_region(file: &[u8], layout: Layout, line: u32, region: Region) {
-    put_span(region_span(file, layout, line, region));
-    put_ends(region_bytes(file, layout, line, region));
+    say_span(region_span(file, layout, line, region));
+    say_ends(region_bytes(file, layout, line, region));
 }
 
 // Asks the call of a word that reads an AREA file, and writes what came back.
 fn ask_area(file: &[u8], layout: Layout, call: u32, n: Numbers) {
     match call {
-        SAMPLE..=BAND_SAMPLE => put_number(read_sample(
+        SAMPLE..=BAND_SAMPLE => say_number(read_sample(
             file,
             layout,
             n.a,
@@ -169,22 +169,22 @@ fn ask_area(file: &[u8], layout: Layout, call: u32, n: Numbers) {
             slot_or_band(call, n.c),
         )),
         LINE..=BAND_LINE => ask_line_of(file, layout, n.a, slot_or_band(call, n.b), n.c),
-        BAND_SLOT => put_number(band_slot(file, layout, n.a)),
-        DIR..=AUDIT => ask_block(file, layout, block_of(call)),
-        _ => ask_region(file, layout, n.a, region_of(call)),
+        BAND_SLOT => say_number(band_slot(file, layout, n.a)),
+        DIR..=AUDIT => ask_block(file, layout, block_named(call)),
+        _ => ask_region(file, layout, n.a, region_named(call)),
     }
 }
 
 // Asks where the header of a grid lies, and for its bytes.
 fn ask_header(file: &[u8], layout: Layout) {
-    put_span(header_span(file, layout));
-    put_ends(header_bytes(file, layout));
+    say_span(header_span(file, layout));
+    say_ends(header_bytes(file, layout));
 }
 
 // Finds a key by the first n bytes of a name. Does nothing where the name has fewer.
 fn ask_key(file: &[u8], layout: Layout, name: &[u8], n: usize) {
     if n <= name.len() {
-        put_number(find_key(file, layout, &name[0..n]));
+        say_number(find_key(file, layout, &name[0..n]));
     }
 }
 
@@ -216,8 +216,8 @@ fn copy_words(
 fn ask_copy(file: &[u8], layout: Layout, call: u32, n: Numbers, out: &mut [i32]) {
     let end = n.a as usize;
     if end <= out.len() {
-        put_size(copy_words(file, layout, call, n.b, n.c, &mut out[0..end]));
-        put_words(out);
+        say_size(copy_words(file, layout, call, n.b, n.c, &mut out[0..end]));
+        say_words(out);
     }
 }
 
@@ -231,9 +231,9 @@ fn ask_copy_of(file: &[u8], layout: Layout, call: u32, n: Numbers) {
 pub fn ask(file: &[u8], layout: Layout, call: u32, n: Numbers) {
     match call {
         SAMPLE..=BAND_LIST => ask_area(file, layout, call, n),
-        POINT => put_signed(read_point(file, layout, n.a, n.b)),
+        POINT => say_signed(read_point(file, layout, n.a, n.b)),
         HEADER => ask_header(file, layout),
-        FIELD => put_signed(read_field(file, layout, n.a, n.b, n.c)),
+        FIELD => say_signed(read_field(file, layout, n.a, n.b, n.c)),
         KEY => ask_key_of(file, layout, n.a, n.b),
         _ => ask_copy_of(file, layout, call, n),
     }

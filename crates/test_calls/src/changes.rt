@@ -2,11 +2,11 @@
 use crate::answers::EQUALS;
 use crate::answers::NEXT;
 use crate::answers::print;
-use crate::answers::put;
-use crate::answers::put_added;
-use crate::answers::put_size;
-use crate::answers::put_store;
-use crate::answers::put_table;
+use crate::answers::say;
+use crate::answers::say_added;
+use crate::answers::say_size;
+use crate::answers::say_store;
+use crate::answers::say_table;
 use crate::asks::STORE_BAND;
 use crate::asks::STORE_SAMPLE;
 use crate::asks::slot_or_band;
@@ -30,9 +30,9 @@ use stores::store_sample;
 const STORE_POINT: u32 = 24;
 
 // Stores a number, with a layout, and writes what came back.
-pub fn store(file: &mut [u8], layout: Layout, call: u32, n: Numbers) {
+pub fn store_value(file: &mut [u8], layout: Layout, call: u32, n: Numbers) {
     match call {
-        STORE_SAMPLE..=STORE_BAND => put_store(store_sample(
+        STORE_SAMPLE..=STORE_BAND => say_store(store_sample(
             file,
             layout,
             n.a,
@@ -40,34 +40,34 @@ pub fn store(file: &mut [u8], layout: Layout, call: u32, n: Numbers) {
             slot_or_band(call, n.c),
             n.d,
         )),
-        STORE_POINT => put_store(store_point(file, layout, n.a, n.b, signed(n.c))),
-        _ => put_store(store_field(file, layout, n.a, n.b, n.c, signed(n.d))),
+        STORE_POINT => say_store(store_point(file, layout, n.a, n.b, signed(n.c))),
+        _ => say_store(store_field(file, layout, n.a, n.b, n.c, signed(n.d))),
     }
 }
 
 // Writes what deleting a grid answers: how many free stretches there are, and each of them.
-fn put_deletion(deletion: Deletion) {
+fn say_deletion(deletion: Deletion) {
     let answer = deletion.answer;
     let table = deletion.table;
-    put_size(answer);
-    put_table(table);
+    say_size(answer);
+    say_table(table);
 }
 
 // Deletes the grid of a number: `delete NUMBER`.
-pub fn delete(file: &mut [u8], order: Order, number: u32) {
-    put_deletion(delete_with_table(file, order, number));
+pub fn delete_grid(file: &mut [u8], order: Order, number: u32) {
+    say_deletion(delete_with_table(file, order, number));
 }
 
 // Writes what adding a grid answers: its number and address, how many free stretches there are, and each of them.
-fn put_addition(addition: Addition) {
+fn say_addition(addition: Addition) {
     let answer = addition.answer;
     let table = addition.table;
-    put_added(answer);
-    put_table(table);
+    say_added(answer);
+    say_table(table);
 }
 
 // The bytes that headers are made of: byte i is i + 1 modulo 256.
-fn header_bytes() -> [u8; 300] {
+fn made_header() -> [u8; 300] {
     let mut header = [0u8; 300];
     let mut i = 0;
     while i < 300 {
@@ -91,12 +91,12 @@ fn values_from(first: u32) -> [i32; 100] {
 }
 
 // Adds a grid, with the first bytes of a header and the first of some values; adds none where they are too few.
-fn add_of(file: &mut [u8], order: Order, n: Numbers, header: &[u8], values: &[i32]) {
+fn add_made(file: &mut [u8], order: Order, n: Numbers, header: &[u8], values: &[i32]) {
     let count = n.d as usize;
     let bytes = n.e as usize;
     if count <= values.len() {
         if bytes <= header.len() {
-            put_addition(add_with_table(
+            say_addition(add_with_table(
                 file,
                 order,
                 &header[0..bytes],
@@ -110,10 +110,10 @@ fn add_of(file: &mut [u8], order: Order, n: Numbers, header: &[u8], values: &[i3
 
 // Adds a grid: `add ROWS COLUMNS FIRST VALUES BYTES`, with so many values, at most 100, which are FIRST, FIRST + 1 and so on, and with a header of so many bytes, at most
 // 300, of which byte i is i + 1 modulo 256.
-pub fn add(file: &mut [u8], order: Order, n: Numbers) {
-    let header = header_bytes();
+pub fn add_grid(file: &mut [u8], order: Order, n: Numbers) {
+    let header = made_header();
     let values = values_from(n.c);
-    add_of(file, order, n, &header, &values);
+    add_made(file, order, n, &header, &values);
 }
 
 // A word of the file, counted from 0, or 0 where the file has it not.
@@ -162,7 +162,7 @@ fn area_byte(i: usize) -> u8 {
 }
 
 // Makes an AREA file: its directory holds 0, and each byte i behind it i modulo 256.
-pub fn fill_bytes(file: &mut [u8]) {
+pub fn make_bytes(file: &mut [u8]) {
     let mut i = 0;
     while i < file.len() {
         file[i] = area_byte(i);
@@ -171,7 +171,7 @@ pub fn fill_bytes(file: &mut [u8]) {
 }
 
 // Makes a file of another kind: each word k holds k.
-pub fn fill_words(file: &mut [u8], order: Order) {
+pub fn make_words(file: &mut [u8], order: Order) {
     let mut k: u32 = 0;
     while k < 4121 {
         set_word(file, order, k, k);
@@ -195,17 +195,17 @@ pub fn copy_bytes(n: usize, from: &[u8], to: &mut [u8]) {
 }
 
 // Writes a byte of the file where it differs from that of the copy: its index and its value. Answers whether it does.
-fn put_difference(index: usize, byte: u8, copied: u8) -> bool {
+fn say_difference(index: usize, byte: u8, copied: u8) -> bool {
     if byte == copied {
         return false;
     }
-    put(NEXT, index as u64);
-    put(EQUALS, byte as u64);
+    say(NEXT, index as u64);
+    say(EQUALS, byte as u64);
     true
 }
 
 // Writes each of the first n bytes of the file that differs from that of the copy. Answers whether one does.
-fn put_differences(n: usize, file: &[u8], copy: &[u8]) -> bool {
+fn say_differences(n: usize, file: &[u8], copy: &[u8]) -> bool {
     let mut found = false;
     let mut i = 0;
     while i < n {
@@ -215,7 +215,7 @@ fn put_differences(n: usize, file: &[u8], copy: &[u8]) -> bool {
         if copy.len() <= i {
             return found;
         }
-        if put_difference(i, file[i], copy[i]) {
+        if say_difference(i, file[i], copy[i]) {
             found = true;
         }
         i += 1;
@@ -225,7 +225,7 @@ fn put_differences(n: usize, file: &[u8], copy: &[u8]) -> bool {
 
 // Writes what differs, or that nothing does.
 pub fn compare(n: usize, file: &[u8], copy: &[u8]) {
-    if !put_differences(n, file, copy) {
+    if !say_differences(n, file, copy) {
         print(b": none");
     }
 }

@@ -12,24 +12,24 @@ mod words;
 use answers::FIRST;
 use answers::end_line;
 use answers::print;
-use answers::put_date;
-use answers::put_opening;
-use answers::put_time;
-use answers::put_word;
+use answers::say_date;
+use answers::say_opening;
+use answers::say_time;
+use answers::say_word;
 use asks::SAMPLE;
 use asks::STORE_SAMPLE;
 use asks::ask;
 use calendar::date_of;
 use calendar::time_of;
-use changes::add;
+use changes::add_grid;
 use changes::compare;
 use changes::copy_bytes;
-use changes::delete;
-use changes::fill_bytes;
-use changes::fill_words;
+use changes::delete_grid;
+use changes::make_bytes;
+use changes::make_words;
 use changes::set_word;
 use changes::set_words;
-use changes::store;
+use changes::store_value;
 use changes::word_at;
 use endian::signed;
 use endian_rules::Order;
@@ -41,7 +41,7 @@ use layout_rules::Opening;
 use libc::STDIN_FILENO;
 use words::LINE_FEED;
 use words::Numbers;
-use words::end_of;
+use words::index_from;
 use words::numbers_in;
 use words::word_number;
 
@@ -102,7 +102,7 @@ struct Subject {
 }
 
 // Opens a file of a kind.
-fn open(file: &[u8], kind: u32, order: Order, number: u32) -> Opening {
+fn open_kind(file: &[u8], kind: u32, order: Order, number: u32) -> Opening {
     match kind {
         AREA => open_area(file),
         GRID => open_grid(file, order, number),
@@ -113,7 +113,7 @@ fn open(file: &[u8], kind: u32, order: Order, number: u32) -> Opening {
 // Asks the call of a word that takes a layout.
 fn ask_with(file: &mut [u8], layout: Layout, call: u32, n: Numbers) {
     if STORE_SAMPLE <= call {
-        store(file, layout, call, n);
+        store_value(file, layout, call, n);
     } else {
         ask(file, layout, call, n);
     }
@@ -130,7 +130,7 @@ fn ask_opened(
 ) {
     let end = subject.opened_length;
     if end <= bytes.len() {
-        match open(
+        match open_kind(
             &bytes[0..end],
             subject.opened_kind,
             order,
@@ -152,22 +152,22 @@ fn try_word(file: &mut [u8], order: Order, kind: u32, n: Numbers) {
     let k = std::num::wrapping_sub_u32(n.a, first_word(kind));
     let old = word_at(file, order, k);
     set_word(file, order, k, n.b);
-    put_opening(open(file, kind, order, n.c));
+    say_opening(open_kind(file, kind, order, n.c));
     set_word(file, order, k, old);
 }
 
 // Does what a word says that needs no layout and no copy.
 fn change(file: &mut [u8], order: Order, kind: u32, call: u32, n: Numbers, line: &[u8]) {
     match call {
-        DELETE => delete(file, order, n.a),
-        ADD => add(file, order, n),
-        WORD => put_word(FIRST, signed(word_at(file, order, n.a))),
-        DATE => put_date(date_of(signed(n.a))),
-        TIME => put_time(time_of(signed(n.a))),
+        DELETE => delete_grid(file, order, n.a),
+        ADD => add_grid(file, order, n),
+        WORD => say_word(FIRST, signed(word_at(file, order, n.a))),
+        DATE => say_date(date_of(signed(n.a))),
+        TIME => say_time(time_of(signed(n.a))),
         WORDS => set_words(file, order, first_word(kind), line),
         WITH => try_word(file, order, kind, n),
-        AREA => fill_bytes(file),
-        _ => fill_words(file, order),
+        AREA => make_bytes(file),
+        _ => make_words(file, order),
     }
 }
 
@@ -200,8 +200,8 @@ fn open_file(
     file: &[u8],
     bytes: &mut [u8],
 ) -> Subject {
-    let opening = open(file, subject.kind, order, number);
-    put_opening(opening);
+    let opening = open_kind(file, subject.kind, order, number);
+    say_opening(opening);
     match opening {
         Opening::Opened(_) => {
             copy_bytes(subject.length, file, bytes);
@@ -311,7 +311,7 @@ fn run_lines(list: &[u8], text: &[u8], order: Order) {
     let mut subject = nothing();
     let mut at = 0;
     while at < text.len() {
-        let end = end_of(text, at, LINE_FEED);
+        let end = index_from(text, at, LINE_FEED);
         let call = word_number(&text[at..end], list);
         subject = step(
             subject,
@@ -329,7 +329,7 @@ fn run_lines(list: &[u8], text: &[u8], order: Order) {
 
 // Runs a script in both byte orders. The line feed behind the list of words ends the line that names the order.
 fn run(text: &[u8]) {
-    let end = end_of(text, 0, LINE_FEED);
+    let end = index_from(text, 0, LINE_FEED);
     print(b"BIG ORDER");
     run_lines(&text[0..end], &text[end..], Order::Big);
     print(b"LITTLE ORDER");

@@ -40,7 +40,7 @@ struct Reading {
 }
 
 // The index of the first byte of a value from an index on, or the length of the text where there is none.
-pub fn end_of(text: &[u8], at: usize, byte: u8) -> usize
+pub fn index_from(text: &[u8], at: usize, byte: u8) -> usize
     requires { ⌜ at ≤ length (now text) ⌝ }
     ensures { λ r. ⌜ (at ≤ r) × (r ≤ length (now (text .entry))) ⌝ }
 {
@@ -77,7 +77,7 @@ pub fn word_number(line: &[u8], list: &[u8]) -> u32 {
     let mut k: u32 = 0;
     let mut at = 0;
     while at < list.len() {
-        let end = end_of(list, at, SPACE);
+        let end = index_from(list, at, SPACE);
         if begins(line, &list[at..end]) {
             return k;
         }

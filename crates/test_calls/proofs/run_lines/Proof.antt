@@ -20,8 +20,8 @@ nothing-requires c κs = tt
 loop-holds : tie.Need-loop-holds Inv-loop μ-loop
 loop-holds c = omega arith
 
-end-of-requires : tie.Need-end-of-requires Inv-loop μ-loop
-end-of-requires c κs = omega arith
+index-from-requires : tie.Need-index-from-requires Inv-loop μ-loop
+index-from-requires c κs = omega arith
 
 sub-word-number : tie.Need-sub-word-number Inv-loop μ-loop
 sub-word-number c = omega arith
@@ -79,7 +79,7 @@ run-lines-spec =
     μ-loop
     nothing-requires
     loop-holds
-    end-of-requires
+    index-from-requires
     sub-word-number
     part-word-number-start
     part-word-number-end

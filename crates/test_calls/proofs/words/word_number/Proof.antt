@@ -15,8 +15,8 @@ abbrev μ-loop : tie.MeasureT-loop
 loop-holds : tie.Need-loop-holds Inv-loop μ-loop
 loop-holds c = omega arith
 
-end-of-requires : tie.Need-end-of-requires Inv-loop μ-loop
-end-of-requires c κs = omega arith
+index-from-requires : tie.Need-index-from-requires Inv-loop μ-loop
+index-from-requires c κs = omega arith
 
 sub-begins : tie.Need-sub-begins Inv-loop μ-loop
 sub-begins c = omega arith
@@ -55,7 +55,7 @@ word-number-spec =
     Inv-loop
     μ-loop
     loop-holds
-    end-of-requires
+    index-from-requires
     sub-begins
     part-begins-start
     part-begins-end

@@ -1,10 +1,10 @@
--- `test_calls::answers::put_words` meets its contract: it ends, and reads no place behind the output.
+-- `test_calls::answers::say_words` meets its contract: it ends, and reads no place behind the output.
 -- Assumes nothing.
 use Prim.Native.Nat.{_-_, _≤_}
 use native.Mathlib.Omega.{arith}
 use lib.ListN.{length}
-use Rattle.test_calls.proofs.answers.put_words.Statement.{statement}
-use Rattle.test_calls.proofs.answers.put_words.Tie as tie
+use Rattle.test_calls.proofs.answers.say_words.Statement.{statement}
+use Rattle.test_calls.proofs.answers.say_words.Tie as tie
 
 abbrev Inv-loop : tie.InvT-loop
 Inv-loop out i₀ i = i ≤ length out
@@ -15,14 +15,14 @@ abbrev μ-loop : tie.MeasureT-loop
 loop-holds : tie.Need-loop-holds Inv-loop μ-loop
 loop-holds c = omega arith
 
-mul-put-word : tie.Need-mul-put-word Inv-loop μ-loop
-mul-put-word c = omega arith
+mul-say-word : tie.Need-mul-say-word Inv-loop μ-loop
+mul-say-word c = omega arith
 
-shared-slice-copy-out-put-word : tie.Need-shared-slice-copy-out-put-word Inv-loop μ-loop
-shared-slice-copy-out-put-word c = omega arith
+shared-slice-copy-out-say-word : tie.Need-shared-slice-copy-out-say-word Inv-loop μ-loop
+shared-slice-copy-out-say-word c = omega arith
 
-put-word-requires : tie.Need-put-word-requires Inv-loop μ-loop
-put-word-requires c κs = tt
+say-word-requires : tie.Need-say-word-requires Inv-loop μ-loop
+say-word-requires c κs = tt
 
 add-i : tie.Need-add-i Inv-loop μ-loop
 add-i c = omega arith
@@ -36,16 +36,16 @@ loop-again c = omega arith
 returns : tie.Need-returns Inv-loop μ-loop
 returns c = tt
 
-pub put-words-spec : {M : Type 1} → statement M
-put-words-spec =
+pub say-words-spec : {M : Type 1} → statement M
+say-words-spec =
     tie.close
     (tie.spec
     Inv-loop
     μ-loop
     loop-holds
-    mul-put-word
-    shared-slice-copy-out-put-word
-    put-word-requires
+    mul-say-word
+    shared-slice-copy-out-say-word
+    say-word-requires
     add-i
     loop-less
     loop-again

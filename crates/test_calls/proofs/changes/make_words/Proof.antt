@@ -1,11 +1,11 @@
--- `test_calls::changes::fill_words` meets its contract: it ends, and the file keeps its length.
+-- `test_calls::changes::make_words` meets its contract: it ends, and the file keeps its length.
 -- Assumes nothing.
 use mathlib.Core.Path.{_≡_}
 use Prim.Native.Nat.{_-_, _≤_}
 use native.Mathlib.Omega.{arith}
 use lib.ListN.{length}
-use Rattle.test_calls.proofs.changes.fill_words.Statement.{statement}
-use Rattle.test_calls.proofs.changes.fill_words.Tie as tie
+use Rattle.test_calls.proofs.changes.make_words.Statement.{statement}
+use Rattle.test_calls.proofs.changes.make_words.Tie as tie
 
 abbrev Inv-loop : tie.InvT-loop
 Inv-loop file₀ order k₀ file k = (k ≤ 4121) × (length file ≡ length file₀)
@@ -34,8 +34,8 @@ same-length c = omega arith
 returns : tie.Need-returns Inv-loop μ-loop
 returns c = tt
 
-pub fill-words-spec : {M : Type 1} → statement M
-fill-words-spec =
+pub make-words-spec : {M : Type 1} → statement M
+make-words-spec =
     tie.close
     (tie.spec
     Inv-loop

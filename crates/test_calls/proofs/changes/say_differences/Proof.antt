@@ -1,9 +1,9 @@
--- `test_calls::changes::put_differences` meets its contract: it ends, and reads bytes that both have.
+-- `test_calls::changes::say_differences` meets its contract: it ends, and reads bytes that both have.
 -- Assumes nothing.
 use Prim.Native.Nat.{_-_, _≤_}
 use native.Mathlib.Omega.{arith}
-use Rattle.test_calls.proofs.changes.put_differences.Statement.{statement}
-use Rattle.test_calls.proofs.changes.put_differences.Tie as tie
+use Rattle.test_calls.proofs.changes.say_differences.Statement.{statement}
+use Rattle.test_calls.proofs.changes.say_differences.Tie as tie
 
 abbrev Inv-loop : tie.InvT-loop
 Inv-loop n file copy found₀ i₀ found i = i ≤ n
@@ -20,14 +20,14 @@ returns c = tt
 returns-2 : tie.Need-returns-2 Inv-loop μ-loop
 returns-2 c = tt
 
-shared-slice-read-put-difference : tie.Need-shared-slice-read-put-difference Inv-loop μ-loop
-shared-slice-read-put-difference c = omega arith
+shared-slice-read-say-difference : tie.Need-shared-slice-read-say-difference Inv-loop μ-loop
+shared-slice-read-say-difference c = omega arith
 
-shared-slice-read-put-difference-2 : tie.Need-shared-slice-read-put-difference-2 Inv-loop μ-loop
-shared-slice-read-put-difference-2 c = omega arith
+shared-slice-read-say-difference-2 : tie.Need-shared-slice-read-say-difference-2 Inv-loop μ-loop
+shared-slice-read-say-difference-2 c = omega arith
 
-put-difference-requires : tie.Need-put-difference-requires Inv-loop μ-loop
-put-difference-requires c κs = tt
+say-difference-requires : tie.Need-say-difference-requires Inv-loop μ-loop
+say-difference-requires c κs = tt
 
 add-i : tie.Need-add-i Inv-loop μ-loop
 add-i c = omega arith
@@ -41,8 +41,8 @@ loop-again c = omega arith
 returns-3 : tie.Need-returns-3 Inv-loop μ-loop
 returns-3 c = tt
 
-pub put-differences-spec : {M : Type 1} → statement M
-put-differences-spec =
+pub say-differences-spec : {M : Type 1} → statement M
+say-differences-spec =
     tie.close
     (tie.spec
     Inv-loop
@@ -50,9 +50,9 @@ put-differences-spec =
     loop-holds
     returns
     returns-2
-    shared-slice-read-put-difference
-    shared-slice-read-put-difference-2
-    put-difference-requires
+    shared-slice-read-say-difference
+    shared-slice-read-say-difference-2
+    say-difference-requires
     add-i
     loop-less
     loop-again

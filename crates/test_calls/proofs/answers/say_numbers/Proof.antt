@@ -1,10 +1,10 @@
--- `test_calls::answers::put_numbers` meets its contract: it ends, and reads no place behind the output.
+-- `test_calls::answers::say_numbers` meets its contract: it ends, and reads no place behind the output.
 -- Assumes nothing.
 use Prim.Native.Nat.{_-_, _≤_}
 use native.Mathlib.Omega.{arith}
 use lib.ListN.{length}
-use Rattle.test_calls.proofs.answers.put_numbers.Statement.{statement}
-use Rattle.test_calls.proofs.answers.put_numbers.Tie as tie
+use Rattle.test_calls.proofs.answers.say_numbers.Statement.{statement}
+use Rattle.test_calls.proofs.answers.say_numbers.Tie as tie
 
 abbrev Inv-loop : tie.InvT-loop
 Inv-loop out i₀ i = i ≤ length out
@@ -24,8 +24,8 @@ shared-slice-read-wider c = omega arith
 wider-requires : tie.Need-wider-requires Inv-loop μ-loop
 wider-requires c κs = tt
 
-put-requires : tie.Need-put-requires Inv-loop μ-loop
-put-requires c κs = tt
+say-requires : tie.Need-say-requires Inv-loop μ-loop
+say-requires c κs = tt
 
 add-i : tie.Need-add-i Inv-loop μ-loop
 add-i c = omega arith
@@ -39,8 +39,8 @@ loop-again c = omega arith
 returns : tie.Need-returns Inv-loop μ-loop
 returns c = tt
 
-pub put-numbers-spec : {M : Type 1} → statement M
-put-numbers-spec =
+pub say-numbers-spec : {M : Type 1} → statement M
+say-numbers-spec =
     tie.close
     (tie.spec
     Inv-loop
@@ -49,7 +49,7 @@ put-numbers-spec =
     mul-wider
     shared-slice-read-wider
     wider-requires
-    put-requires
+    say-requires
     add-i
     loop-less
     loop-again

@@ -1,9 +1,9 @@
--- `test_calls::changes::header_bytes` meets its contract: it ends, and writes inside the header.
+-- `test_calls::changes::made_header` meets its contract: it ends, and writes inside the header.
 -- Assumes nothing.
 use Prim.Native.Nat.{_-_, _≤_}
 use native.Mathlib.Omega.{arith}
-use Rattle.test_calls.proofs.changes.header_bytes.Statement.{statement}
-use Rattle.test_calls.proofs.changes.header_bytes.Tie as tie
+use Rattle.test_calls.proofs.changes.made_header.Statement.{statement}
+use Rattle.test_calls.proofs.changes.made_header.Tie as tie
 
 abbrev Inv-loop : tie.InvT-loop
 Inv-loop header₀ i₀ header i = i ≤ 300
@@ -35,8 +35,8 @@ loop-again c = omega arith
 returns : tie.Need-returns Inv-loop μ-loop
 returns c = tt
 
-pub header-bytes-spec : {M : Type 1} → statement M
-header-bytes-spec =
+pub made-header-spec : {M : Type 1} → statement M
+made-header-spec =
     tie.close
     (tie.spec
     Inv-loop

@@ -1,12 +1,12 @@
--- `test_calls::changes::fill_bytes` meets its contract: it ends, and writes inside the file.
+-- `test_calls::changes::make_bytes` meets its contract: it ends, and writes inside the file.
 -- Assumes nothing.
 use mathlib.Core.Path.{_≡_}
 use Prim.Native.Nat.{_-_, _≤_}
 use native.Mathlib.Omega.{arith}
 use lib.ListN.{length}
 use borrow.Author.Needs.{needs}
-use Rattle.test_calls.proofs.changes.fill_bytes.Statement.{statement}
-use Rattle.test_calls.proofs.changes.fill_bytes.Tie as tie
+use Rattle.test_calls.proofs.changes.make_bytes.Statement.{statement}
+use Rattle.test_calls.proofs.changes.make_bytes.Tie as tie
 
 abbrev Inv-loop : tie.InvT-loop
 Inv-loop file₀ i₀ file i = (i ≤ length file₀) × (length file ≡ length file₀)
@@ -38,8 +38,8 @@ same-length c = omega arith
 returns : tie.Need-returns Inv-loop μ-loop
 returns c = tt
 
-pub fill-bytes-spec : {M : Type 1} → statement M
-fill-bytes-spec =
+pub make-bytes-spec : {M : Type 1} → statement M
+make-bytes-spec =
     tie.close
     (tie.spec
     Inv-loop

@@ -1,10 +1,10 @@
--- `test_calls::words::end_of` meets its contract: it ends, and answers an index from the one that is asked to the end of the text.
+-- `test_calls::words::index_from` meets its contract: it ends, and answers an index from the one that is asked to the end of the text.
 -- Assumes nothing.
 use Prim.Native.Nat.{_-_, _≤_}
 use native.Mathlib.Omega.{arith}
 use lib.ListN.{length}
-use Rattle.test_calls.proofs.words.end_of.Statement.{statement}
-use Rattle.test_calls.proofs.words.end_of.Tie as tie
+use Rattle.test_calls.proofs.words.index_from.Statement.{statement}
+use Rattle.test_calls.proofs.words.index_from.Tie as tie
 
 abbrev Inv-loop : tie.InvT-loop
 Inv-loop text at byte end₀ end = (at ≤ end) × (end ≤ length text)
@@ -33,8 +33,8 @@ loop-again c = omega arith
 returns-2 : tie.Need-returns-2 Inv-loop μ-loop
 returns-2 c = omega arith
 
-pub end-of-spec : {M : Type 1} → statement M
-end-of-spec =
+pub index-from-spec : {M : Type 1} → statement M
+index-from-spec =
     tie.close
     (tie.spec
     Inv-loop
