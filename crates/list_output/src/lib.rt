@@ -82,16 +82,21 @@ fn print_answer(listing: Listing) {
     }
 }
 
+// Writes what is listed of a file: its listing, or `TOO LONG` where it is not short enough.
+fn print_listed(file: &[u8], listed: bool) {
+    if listed {
+        print_answer(list_area(file));
+    } else {
+        print(b"TOO LONG\n");
+    }
+}
+
 // Writes the listing of an AREA file to standard output: the lines of document 01, `REFUSED` with number and place where the file is refused, or `TOO LONG` where it has
 // more than 65,536 bytes. Answers whether it is short enough to be listed.
 pub fn print_listing(file: &[u8]) -> bool
     ensures { λ r. ⌜ r ≡ leb (length (now (file .entry))) 65536 ⌝ }
 {
     let listed = file.len() <= 65536;
-    if listed {
-        print_answer(list_area(file));
-    } else {
-        print(b"TOO LONG\n");
-    }
+    print_listed(file, listed);
     listed
 }
