@@ -2,6 +2,7 @@
 use area_directory::word_verdict;
 use area_rules::AreaLayout;
 use area_rules::AreaOpening;
+use bands::second_map;
 use endian::order_number;
 use endian_rules::Order;
 use endian_steps::read_word;
@@ -14,8 +15,6 @@ use refusal_rules::Verdict;
 ghost use mathlib.Core.Path.{_≡_};
 ghost use Prim.Native.Nat.{_≤_};
 ghost use lib.ListN.{length, drop};
-ghost use lib.Dec.{leb};
-ghost use Rattle.lists.specs.Choices.{pick};
 ghost use Rattle.refusal_rules.specs.Tests.{sameNumbers};
 ghost use Rattle.area_rules.specs.Rules.{directoryOf, wordIn};
 ghost use Rattle.area_rules.specs.Opening.{areaLayoutOf, areaSays, openAreaWords, openAreaTold, openArea, flagNumber, areaNumbers, sameArea};
@@ -33,13 +32,6 @@ fn read_directory(order: Order, file: &[u8]) -> [u32; 64]
         i += 1;
     }
     words
-}
-
-// The second word of the band map, 0 unless there are more than 32 bands.
-fn second_map(bands: u32, map2: u32) -> u32
-    ensures { λ r. ⌜ r ≡ pick (leb bands 32) 0 map2 ⌝ }
-{
-    if bands <= 32 { 0 } else { map2 }
 }
 
 // The layout that the words of a file of `told` bytes give.

@@ -1,4 +1,5 @@
 // The rules of the words of an AREA directory, as functions over its 64 words. W k, counted from 1, is words[k - 1].
+use area_steps::line_bytes;
 use endian::at_least;
 use refusal::and;
 use refusal::check;
@@ -14,7 +15,7 @@ ghost use lib.Dec.{leb, ltb, eqb};
 ghost use Rattle.lists.specs.Choices.{both, either};
 ghost use Rattle.refusal_rules.specs.Rules.{judge, first, firstFault};
 ghost use Rattle.area_rules.specs.Rules.{wordIn, areaCount, isWidth, areaCountRules, prefixLengthOf, lineLengthOf, areaShapeRules, auditEndOf, areaPlaceRules, areaDescribedRules, areaWordRules};
-ghost use Rattle.area_rules.specs.Lines.{lineLength, auditEnd};
+ghost use Rattle.area_rules.specs.Lines.{auditEnd};
 
 // Refusal 3 at word k, after what came before, unless the word is from `low` to `high`.
 fn count(verdict: Verdict, words: &[u32; 64], k: usize, low: u32, high: u32) -> Verdict
@@ -60,20 +61,12 @@ fn prefix_length_of(words: &[u32; 64]) -> u32
     if words[35] == 0 { regions } else { 4 + regions }
 }
 
-// The bytes of a line, of numbers within the bounds of the counts, so that the product fits.
-fn length_of_line(prefix: u32, bands: u32, elements: u32, width: u32) -> usize
-    requires { ⌜ (bands ≤ 64) × ((elements ≤ 65535) × (width ≤ 4)) ⌝ }
-    ensures { λ r. ⌜ r ≡ lineLength prefix bands elements width ⌝ }
-{
-    prefix as usize + bands as usize * elements as usize * width as usize
-}
-
 // The line length that the words give, where the counts passed.
 fn line_length_of(words: &[u32; 64]) -> usize
     requires { ⌜ firstFault (areaCountRules (wordIn (now words))) ≡ Verdict.Pass ⌝ }
     ensures { λ r. ⌜ r ≡ lineLengthOf (wordIn (now (words .entry))) ⌝ }
 {
-    length_of_line(words[14], words[13], words[9], words[10])
+    line_bytes(words[14], words[13], words[9], words[10])
 }
 
 // The byte after AUDIT. The bounds are those of the counts, and of a line: 196,609 bytes of prefix and 16,776,960 of samples.

@@ -5,33 +5,26 @@ use mathlib.Core.Bool.{true}
 use mathlib.Core.Logic.{_↔_}
 use mathlib.Core.List.{List, [], _∷_}
 use Prim.Native.Nat.{ℕ, _+_, _≤_}
-use native.Mathlib.Nat.{le-refl}
 use native.Mathlib.Omega.{arith}
 use lib.ListN.{length}
 use Rattle.refusal_rules.specs.Answers.{Answer, gives, refuses, andThen}
 use Rattle.refusal_rules.specs.Rules.{tabled}
 use Rattle.refusal_rules.proofs.Answers.{then-gives, value-exactly, never-refused}
 use Rattle.refusal_rules.proofs.Tables.{also}
-use Rattle.area_rules.specs.Samples.{dataEndIn, AreaFits, AreaOf}
+use Rattle.area_rules.specs.Samples.{AreaFits, AreaOf}
 use Rattle.area_rules.specs.Blocks.{blockPresent, blockStart, blockLength}
 use Rattle.area_rules.specs.declared.AreaLayout.{AreaLayout}
 use Rattle.area_rules.specs.declared.Block.{Block}
 use Rattle.area_rules.proofs.Blocks.{block-inside}
-use Rattle.area_rules.specs.Places.{lineStartOf}
-use Rattle.area_rules.proofs.Places.{line-begins}
+use Rattle.area_rules.specs.Opening.{openArea}
 use Rattle.layout_rules.specs.Found.{areaOf}
 use Rattle.layout_rules.specs.Layouts.{Fresh}
 use Rattle.layout_rules.specs.declared.Layout.{Layout}
-use Rattle.layout_rules.proofs.OneKind.{area-known, area-nine}
+use Rattle.layout_rules.specs.declared.Layout.the-variants.{Area}
+use Rattle.layout_rules.proofs.OneKind.{area-found, area-known, area-nine}
 use Rattle.span_rules.specs.Spans.{span, Inside}
 use Rattle.span_rules.specs.declared.Span.{Span}
 use Rattle.area_part_rules.specs.Blocks.{blockRules, blockOf, blockSpan}
-
--- ---- where lines begin
-
--- DATA ends where line W9 would begin
-pub data-end : (l : AreaLayout) → AreaFits l → lineStartOf l (l .lines) ≡ gives (dataEndIn l)
-data-end l fits = line-begins l fits (l .lines) (le-refl (l .lines))
 
 -- ---- blocks
 
@@ -41,21 +34,43 @@ unfolding tabled blockRules
 block-order l b = refl
 
 module _ (l : AreaLayout) (b : Block) where
-  -- a block has a span exactly where it is present, and then its own
-  pub block-exactly : (s : Span) → (blockOf l b ≡ gives s) ↔ ((blockPresent l b ≡ true) × (s ≡ span (blockStart l b) (blockLength l b)))
+  -- by a layout alone a block has a span exactly where it is present, and then its own
+  block-here : (s : Span) → (blockOf l b ≡ gives s) ↔ ((blockPresent l b ≡ true) × (s ≡ span (blockStart l b) (blockLength l b)))
   unfolding blockOf blockRules
-  block-exactly s =
+  block-here s =
       let x = value-exactly (blockRules l b) (span (blockStart l b) (blockLength l b)) s in
       (λ e. (x .0 e .0 .0, x .0 e .1), λ h. x .1 (also (h .0) tt, h .1))
 
   -- it has bytes, and is inside the file
   pub block-bounds : AreaFits l → (s : Span) → blockOf l b ≡ gives s → (1 ≤ s .length) × (s .start + s .length ≤ l .length)
   block-bounds fits s e =
-      let (here, same) = block-exactly s .0 e in
+      let (here, same) = block-here s .0 e in
       let (some, inside) = block-inside l fits b here in
       subst (λ (x : Span). (1 ≤ x .length) × (x .start + x .length ≤ l .length)) (sym same) (omega arith, omega arith)
 
--- ---- the parts of a file
+-- ---- the blocks of a file
+
+-- the span is that of a block of a file: the layout is an AREA layout that opening the file gives, the block is present, and the span is from its start on as long as
+-- it is
+pub record IsBlockSpan (f : List ℕ) (l : Layout) (b : Block) (s : Span) : Type 0 where
+  pub area : AreaLayout
+  pub layout : l ≡ Area area
+  pub opens : openArea f ≡ gives area
+  pub present : blockPresent area b ≡ true
+  pub same : s ≡ span (blockStart area b) (blockLength area b)
+
+-- a span of a block is given exactly where it is that
+pub block-exactly : (f : List ℕ) (l : Layout) (b : Block) (s : Span) → (blockSpan f l b ≡ gives s) ↔ IsBlockSpan f l b s
+block-exactly f l b s = (
+  λ e.
+      let (a, found, given) = then-gives (λ a. blockOf a b) (areaOf f l) s .0 e in
+      let (layout, opens) = area-found f l a .0 found in
+      let (here, same) = block-here a b s .0 given in
+      record { area = a; layout = layout; opens = opens; present = here; same = same },
+  λ x.
+      then-gives (λ a. blockOf a b) (areaOf f l) s .1
+      (x .area, area-found f l (x .area) .1 (x .layout, x .opens), block-here (x .area) b s .1 (x .present, x .same)),
+)
 
 -- a span that is given is inside, where every one that may be given is
 inside-given : (f : List ℕ) (x : Answer Span) → ((s : Span) → x ≡ gives s → s .start + s .length ≤ length f) → Inside f x

@@ -1,16 +1,17 @@
 -- One slot or band of one line. Its samples are equally far apart, so they are a run that begins at the place of element 0; the refusals of that place are those of
 -- the line.
 -- Assumes nothing.
-use mathlib.Core.Path.{_≡_, refl, sym, subst, _∙_}
+use mathlib.Core.Path.{_≡_, refl, sym, ap, subst, _∙_}
 use mathlib.Core.Logic.{_↔_}
 use mathlib.Core.List.{List, [], _∷_}
-use Prim.Native.Nat.{ℕ, _+_, _*_, _≤_, _<_}
+use Prim.Native.Nat.{ℕ, _+_, _-_, _*_, _≤_, _<_}
 use native.Mathlib.Nat.{mul-assoc, add-mul}
 use native.Mathlib.Omega.{arith}
 use lib.Dec.{ltb}
 use lib.ListN.{length}
 use borrow.Author.Tests.{ltb-true, lt-ltb}
 use Rattle.lists.specs.Lists.{listOf}
+use Rattle.lists.proofs.Built.{length-listOf}
 use Rattle.endian_rules.specs.Numbers.{numberAt}
 use Rattle.refusal_rules.specs.Answers.{Answer, gives, refuses, answered, mapped, andThen, place}
 use Rattle.refusal_rules.specs.Rules.{rule, judge, first, firstFault}
@@ -19,6 +20,7 @@ use Rattle.refusal_rules.specs.declared.Verdict.{Verdict}
 use Rattle.refusal_rules.specs.declared.Verdict.the-variants.{Pass, Fault}
 use Rattle.refusal_rules.proofs.Answers.{then-gives, then-never, value-exactly, never-refused, nine}
 use Rattle.refusal_rules.proofs.Tables.{also}
+use Rattle.area_rules.specs.Opening.{openArea}
 use Rattle.area_rules.specs.Samples.{sampleAddress, AreaFits, AreaOf}
 use Rattle.area_rules.specs.declared.AreaLayout.{AreaLayout}
 use Rattle.area_rules.proofs.Samples.{width-to, sample-inside}
@@ -28,13 +30,14 @@ use Rattle.area_rules.proofs.Places.{sample-place}
 use Rattle.layout_rules.specs.Found.{areaOf}
 use Rattle.layout_rules.specs.Layouts.{Fresh}
 use Rattle.layout_rules.specs.declared.Layout.{Layout}
-use Rattle.layout_rules.proofs.OneKind.{area-nine}
-use Rattle.area_rules.specs.Bands.{slotOf}
+use Rattle.layout_rules.specs.declared.Layout.the-variants.{Area}
+use Rattle.layout_rules.proofs.OneKind.{area-found, area-nine, area-ten}
+use Rattle.area_rules.specs.Bands.{secondMap, setBelow, slotOf}
 use Rattle.area_rules.specs.declared.SlotOrBand.{SlotOrBand}
 use Rattle.area_rules.specs.declared.SlotOrBand.the-variants.{Band}
-use Rattle.area_rules.proofs.Bands.{slot-never}
+use Rattle.area_rules.proofs.Bands.{HasBand, band-slot-exactly, slot-never}
 use Rattle.copy_rules.specs.Runs.{numbersAt}
-use Rattle.copy_rules.proofs.Copies.{copied-nine}
+use Rattle.copy_rules.proofs.Copies.{copied-nine, copied-ten}
 use Rattle.area_part_rules.specs.Lines.{bandSlotIn, slotLine, lineIn, lineOf, copyLine}
 
 -- the samples of a slot are so many bytes apart
@@ -118,21 +121,65 @@ line-exactly f l i c xs = (
       ),
 )
 
+-- ---- the slot of a band of a file
+
+-- s is the slot of band b of a file: the layout is an AREA layout that opening the file gives, its band map has as many set bits as there are bands, that of b among
+-- them, and s is the number of those below it. The second word of the map counts only where there are more than 32 bands.
+pub record IsBandSlot (f : List ℕ) (l : Layout) (b s : ℕ) : Type 0 where
+  pub area : AreaLayout
+  pub layout : l ≡ Area area
+  pub opens : openArea f ≡ gives area
+  pub usable : setBelow (area .map) (secondMap (area .bands) (area .map2)) 64 ≡ area .bands
+  pub has : HasBand (area .map) (secondMap (area .bands) (area .map2)) b
+  pub same : s ≡ setBelow (area .map) (secondMap (area .bands) (area .map2)) (b - 1)
+
+-- a slot is given exactly where it is that
+pub band-slot-in-exactly : (f : List ℕ) (l : Layout) (b s : ℕ) → (bandSlotIn f l b ≡ gives s) ↔ IsBandSlot f l b s
+band-slot-in-exactly f l b s = (
+  λ e.
+      let (a, found, given) = then-gives (λ a. slotOf a (Band b)) (areaOf f l) s .0 e in
+      let (layout, opens) = area-found f l a .0 found in
+      let (usable, (has, same)) = band-slot-exactly (a .map) (a .map2) (a .bands) b s .0 given in
+      record { area = a; layout = layout; opens = opens; usable = usable; has = has; same = same },
+  λ x.
+      let a : AreaLayout = x .area in
+      then-gives (λ a. slotOf a (Band b)) (areaOf f l) s .1 (
+        a,
+        area-found f l a .1 (x .layout, x .opens),
+        band-slot-exactly (a .map) (a .map2) (a .bands) b s .1 (x .usable, (x .has, x .same)),
+      ),
+)
+
 -- ---- stale layouts
 
 -- the slot of a band is refused with 9 exactly where the layout is stale
 pub slot-stale : (f : List ℕ) (l : Layout) (b : ℕ) → (bandSlotIn f l b ≡ refuses 9 0) ↔ (¬ Fresh f l)
-slot-stale f l b = area-nine f l (λ a. slotOf a (Band b)) (λ a. slot-never 9 nine a (Band b))
+slot-stale f l b = area-nine f l (λ a. slotOf a (Band b)) (λ a. slot-never 9 0 nine a (Band b))
 
--- a line that is not yet copied
-given-stale : (f : List ℕ) (l : Layout) (i : ℕ) (c : SlotOrBand) → (lineOf f l i c ≡ refuses 9 0) ↔ (¬ Fresh f l)
+-- a line of an accepted file is refused with no number above 7
+line-never : (f : List ℕ) (a : AreaLayout) (i : ℕ) (c : SlotOrBand) (n : ℕ) → 7 < n → ¬ (lineIn f a i c ≡ refuses n 0)
 unfolding lineIn
-given-stale f l i c =
-    area-nine f l (λ a. lineIn f a i c)
-    (λ a.
-    then-never _ (slotOf a c) 9 0 (slot-never 9 nine a c)
-    (λ s. never-refused (rule (ltb i (a .lines)) 7 0 ∷ []) (slotLine f a i s) 9 0 (λ e. omega (arith, e), tt)))
+line-never f a i c n h =
+    then-never _ (slotOf a c) n 0 (slot-never n 0 h a c)
+    (λ s. never-refused (rule (ltb i (a .lines)) 7 0 ∷ []) (slotLine f a i s) n 0 (λ e. omega (arith, e, h), tt))
 
--- and its copy
-pub line-stale : (f : List ℕ) (l : Layout) (i : ℕ) (c : SlotOrBand) (out : List ℕ) → (copyLine f l i c out .0 ≡ refuses 9 0) ↔ (¬ Fresh f l)
-line-stale f l i c out = copied-nine (lineOf f l i c) out (given-stale f l i c)
+module _ (f : List ℕ) (l : Layout) (i : ℕ) (c : SlotOrBand) (out : List ℕ) where
+  -- a copy of a line is refused with 9 exactly where the layout is stale
+  pub line-stale : (copyLine f l i c out .0 ≡ refuses 9 0) ↔ (¬ Fresh f l)
+  line-stale = copied-nine (lineOf f l i c) out (area-nine f l (λ a. lineIn f a i c) (λ a. line-never f a i c 9 nine))
+
+  -- it is refused with 10 exactly where there is such a line, and the output has fewer places than the line has elements
+  pub line-short : (copyLine f l i c out .0 ≡ refuses 10 0) ↔ ((xs : List ℕ) × (x : LineOf f l i c xs) × (length out < x .area .elements))
+  unfolding slotLine
+  line-short =
+      let never = then-never (λ a. lineIn f a i c) (areaOf f l) 10 0 (area-ten f l) (λ a. line-never f a i c 10 (omega arith)) in
+      let y = copied-ten (lineOf f l i c) out never in (
+        λ e.
+            let (xs, given, short) = y .0 e in
+            let x : LineOf f l i c xs = line-exactly f l i c xs .0 given in
+            (xs, x, omega (arith, short, size xs x)),
+        λ p. let (xs, x, short) = p in y .1 (xs, line-exactly f l i c xs .1 x, omega (arith, short, size xs x)),
+      )
+    where
+      size : (xs : List ℕ) (x : LineOf f l i c xs) → length xs ≡ x .area .elements
+      size xs x = ap length (x .samples) ∙ length-listOf _ (x .area .elements)

@@ -7,17 +7,20 @@ use Prim.Native.Nat.{ℕ, _+_, _≤_, _<_}
 use native.Mathlib.Omega.{arith}
 use Rattle.refusal_rules.specs.Answers.{gives, refuses}
 use Rattle.refusal_rules.specs.Rules.{tabled, Hold}
-use Rattle.refusal_rules.proofs.Answers.{value-exactly, never-refused}
+use Rattle.refusal_rules.proofs.Answers.{then-gives, value-exactly, never-refused}
 use Rattle.refusal_rules.proofs.Exactness.{lt-exactly, eq-exactly, not-exactly}
 use Rattle.refusal_rules.proofs.Tables.{also}
+use Rattle.area_rules.specs.Opening.{openArea}
 use Rattle.area_rules.specs.Samples.{AreaFits}
 use Rattle.area_rules.specs.Blocks.{regionStart, regionLength}
 use Rattle.area_rules.specs.declared.AreaLayout.{AreaLayout}
 use Rattle.area_rules.specs.declared.Region.{Region}
 use Rattle.area_rules.proofs.Regions.{region-inside}
+use Rattle.layout_rules.specs.Found.{areaOf}
 use Rattle.layout_rules.specs.Layouts.{Fresh}
 use Rattle.layout_rules.specs.declared.Layout.{Layout}
-use Rattle.layout_rules.proofs.OneKind.{area-nine}
+use Rattle.layout_rules.specs.declared.Layout.the-variants.{Area}
+use Rattle.layout_rules.proofs.OneKind.{area-found, area-nine}
 use Rattle.span_rules.specs.Spans.{span, Inside}
 use Rattle.span_rules.specs.declared.Span.{Span}
 use Rattle.area_part_rules.proofs.Blocks.{found-inside}
@@ -37,19 +40,42 @@ module _ (l : AreaLayout) (i : ℕ) (r : Region) where
       let some = not-exactly (eq-exactly (regionLength l r) 0) in
       (λ h. (line .sound (h .0), some .sound (h .1 .0)), λ h. also (line .complete (h .0)) (also (some .complete (h .1)) tt))
 
-  -- a region has a span exactly there, and then its own
-  pub region-exactly : (s : Span)
+  -- by a layout alone a region has a span exactly there, and then its own
+  region-here : (s : Span)
       → (regionOf l i r ≡ gives s) ↔ (((i < l .lines) × (¬ (regionLength l r ≡ 0))) × (s ≡ span (regionStart l i r) (regionLength l r)))
   unfolding regionOf
-  region-exactly s =
+  region-here s =
       let x = value-exactly (regionRules l i r) (span (regionStart l i r) (regionLength l r)) s in
       (λ e. (region-hold .0 (x .0 e .0), x .0 e .1), λ h. x .1 (region-hold .1 (h .0), h .1))
 
   -- it has bytes, and is inside the file
   pub region-bounds : AreaFits l → (s : Span) → regionOf l i r ≡ gives s → (1 ≤ s .length) × (s .start + s .length ≤ l .length)
   region-bounds fits s e =
-      let ((line, some), same) = region-exactly s .0 e in
+      let ((line, some), same) = region-here s .0 e in
       subst (λ (x : Span). (1 ≤ x .length) × (x .start + x .length ≤ l .length)) (sym same) (omega (arith, some), region-inside l fits i line r)
+
+-- the span is that of a region of the prefix of line i of a file: the layout is an AREA layout that opening the file gives, there is such a line, the region has
+-- bytes, and the span is from its start on as long as it is
+pub record IsRegionSpan (f : List ℕ) (l : Layout) (i : ℕ) (r : Region) (s : Span) : Type 0 where
+  pub area : AreaLayout
+  pub layout : l ≡ Area area
+  pub opens : openArea f ≡ gives area
+  pub line : i < area .lines
+  pub some : ¬ (regionLength area r ≡ 0)
+  pub same : s ≡ span (regionStart area i r) (regionLength area r)
+
+-- a span of a region is given exactly where it is that
+pub region-exactly : (f : List ℕ) (l : Layout) (i : ℕ) (r : Region) (s : Span) → (regionSpan f l i r ≡ gives s) ↔ IsRegionSpan f l i r s
+region-exactly f l i r s = (
+  λ e.
+      let (a, found, given) = then-gives (λ a. regionOf a i r) (areaOf f l) s .0 e in
+      let (layout, opens) = area-found f l a .0 found in
+      let ((line, some), same) = region-here a i r s .0 given in
+      record { area = a; layout = layout; opens = opens; line = line; some = some; same = same },
+  λ x.
+      then-gives (λ a. regionOf a i r) (areaOf f l) s .1
+      (x .area, area-found f l (x .area) .1 (x .layout, x .opens), region-here (x .area) i r s .1 ((x .line, x .some), x .same)),
+)
 
 -- one that is handed back is inside the file
 pub region-in-file : (f : List ℕ) (l : Layout) (i : ℕ) (r : Region) → Inside f (regionSpan f l i r)

@@ -2,6 +2,7 @@
 // that opening sets, there is no such value, and nothing is computed from it.
 use area_rules::AreaLayout;
 use area_rules::SlotOrBand;
+use area_steps::line_bytes;
 use bands::slot_of;
 use refusal::and;
 use refusal::check;
@@ -12,12 +13,12 @@ use refusal_rules::PlaceAnswer;
 use refusal_rules::SizeAnswer;
 use refusal_rules::Verdict;
 ghost use mathlib.Core.Path.{_≡_};
-ghost use Prim.Native.Nat.{_≤_};
+ghost use Prim.Native.Nat.{_*_, _≤_};
 ghost use Rattle.refusal_rules.specs.Answers.{sizeSays, placeSays};
 ghost use Rattle.refusal_rules.specs.Rules.{firstFault};
 ghost use Rattle.area_rules.specs.Bounds.{areaBounded, AreaBounds};
 ghost use Rattle.area_rules.specs.Samples.{lineLengthIn, lineStart, sampleAddress};
-ghost use Rattle.area_rules.specs.Places.{lineStartOf, sampleRules, samplePlace};
+ghost use Rattle.area_rules.specs.Places.{lengthOfLine, lengthOfData, lineStartOf, sampleRules, samplePlace};
 
 // Whether the fields that AREA addresses are computed from are within the bounds that opening sets.
 fn area_bounded(layout: AreaLayout) -> bool
@@ -35,8 +36,35 @@ fn line_length_in(layout: AreaLayout) -> usize
     requires { ⌜ AreaBounds layout ⌝ }
     ensures { λ r. ⌜ r ≡ lineLengthIn layout ⌝ }
 {
-    layout.prefix as usize
-        + layout.bands as usize * layout.elements as usize * layout.width as usize
+    line_bytes(layout.prefix, layout.bands, layout.elements, layout.width)
+}
+
+// How many bytes a line of an AREA file has, its prefix among them. Refused with 7 where the layout is above the bounds that opening sets.
+pub fn line_length(layout: AreaLayout) -> SizeAnswer
+    ensures { λ r. ⌜ sizeSays r ≡ lengthOfLine layout ⌝ }
+{
+    match check(Verdict::Pass, area_bounded(layout), NO_SUCH, 0) {
+        Verdict::Fault(refusal) => SizeAnswer::Refused(refusal),
+        Verdict::Pass => SizeAnswer::Value(line_length_in(layout)),
+    }
+}
+
+// The bytes of the lines before a line.
+fn lines_before(layout: AreaLayout, line: u32) -> usize
+    requires { ⌜ AreaBounds layout × (line ≤ layout .lines) ⌝ }
+    ensures { λ r. ⌜ r ≡ line * lineLengthIn layout ⌝ }
+{
+    line as usize * line_length_in(layout)
+}
+
+// How many bytes DATA of an AREA file has: those of all its lines. Refused with 7 where the layout is above the bounds that opening sets.
+pub fn data_length(layout: AreaLayout) -> SizeAnswer
+    ensures { λ r. ⌜ sizeSays r ≡ lengthOfData layout ⌝ }
+{
+    match check(Verdict::Pass, area_bounded(layout), NO_SUCH, 0) {
+        Verdict::Fault(refusal) => SizeAnswer::Refused(refusal),
+        Verdict::Pass => SizeAnswer::Value(lines_before(layout, layout.lines)),
+    }
 }
 
 // The byte at which a line begins, with its prefix.
@@ -44,16 +72,16 @@ fn line_at(layout: AreaLayout, line: u32) -> usize
     requires { ⌜ AreaBounds layout × (line ≤ layout .lines) ⌝ }
     ensures { λ r. ⌜ r ≡ lineStart layout line ⌝ }
 {
-    layout.data_start as usize + line as usize * line_length_in(layout)
+    layout.data_start as usize + lines_before(layout, line)
 }
 
-// The byte at which a line of an AREA file begins, with its prefix, the line counted from 0. Line W9 would begin where DATA ends, and so gives that byte.
-// Refused with 7 for any line behind it, or where the layout is above the bounds that opening sets.
+// The byte at which a line of an AREA file begins, with its prefix, the line counted from 0. Refused with 7 where there is no such line, or the layout is above the
+// bounds that opening sets.
 pub fn line_start(layout: AreaLayout, line: u32) -> SizeAnswer
     ensures { λ r. ⌜ sizeSays r ≡ lineStartOf layout line ⌝ }
 {
     let bounded = check(Verdict::Pass, area_bounded(layout), NO_SUCH, 0);
-    match check(bounded, line <= layout.lines, NO_SUCH, 0) {
+    match check(bounded, line < layout.lines, NO_SUCH, 0) {
         Verdict::Fault(refusal) => SizeAnswer::Refused(refusal),
         Verdict::Pass => SizeAnswer::Value(line_at(layout, line)),
     }

@@ -8,16 +8,16 @@ use Prim.Native.Nat.{ℕ, zero, suc, _+_, _-_, _/_, _^_, _≤_, _<_}
 use native.Mathlib.Nat.{mod-lt, eq-or-lt-of-le, le-of-suc-le-suc}
 use native.Mathlib.Omega.{arith}
 use lib.Dec.{ltb, lit<}
-use borrow.Author.Tests.{ltb-true, lt-ltb, eqb-true, eq-eqb}
+use borrow.Author.Tests.{ltb-true, lt-ltb, le-leb, eqb-true, eq-eqb}
 use Rattle.lists.proofs.Choices.{pick-cases}
 use Rattle.lists.proofs.Rows.{compared}
 use Rattle.refusal_rules.specs.Answers.{gives, refuses}
-use Rattle.refusal_rules.specs.Rules.{rule, tabled}
+use Rattle.refusal_rules.specs.Rules.{rule, tabled, firstFault, first, judge}
 use Rattle.refusal_rules.specs.Tests.{Exactly}
 use Rattle.refusal_rules.proofs.Answers.{value-exactly, never-refused}
 use Rattle.refusal_rules.proofs.Exactness.{both-exactly, within-exactly, eq-exactly}
 use Rattle.area_rules.specs.declared.AreaLayout.{AreaLayout}
-use Rattle.area_rules.specs.Bands.{bitOf, mapBit, setBelow, hasBand, bandRules, bandSlot, slotOf}
+use Rattle.area_rules.specs.Bands.{bitOf, secondMap, mapBit, setBelow, hasBand, bandRules, bandSlot, slotOf}
 use Rattle.area_rules.specs.declared.SlotOrBand.{SlotOrBand}
 use Rattle.area_rules.specs.declared.SlotOrBand.the-variants.{Slot, Band}
 
@@ -67,20 +67,32 @@ band-exactly w19 w20 b =
 
 -- a slot is answered exactly where the map is usable and has the band, and it is then the number of set bits below the band's own
 pub band-slot-exactly : (w19 w20 w14 b s : ℕ)
-    → (bandSlot w19 w20 w14 b ≡ gives s) ↔ ((setBelow w19 w20 64 ≡ w14) × (HasBand w19 w20 b × (s ≡ setBelow w19 w20 (b - 1))))
+    → (bandSlot w19 w20 w14 b ≡ gives s)
+    ↔ let map2 = secondMap w14 w20 in ((setBelow w19 map2 64 ≡ w14) × (HasBand w19 map2 b × (s ≡ setBelow w19 map2 (b - 1))))
 unfolding bandSlot bandRules
 band-slot-exactly w19 w20 w14 b s =
-    let x = value-exactly (bandRules w19 w20 w14 b) (setBelow w19 w20 (b - 1)) s in
-    let y = band-exactly w19 w20 b in (
-      λ e. let (hold, same) = x .0 e in (eqb-true (setBelow w19 w20 64) w14 (hold .0), (y .sound (hold .1 .0), same)),
-      λ h. x .1 ((eq-eqb (setBelow w19 w20 64) w14 (h .0), (y .complete (h .1 .0), tt)), h .1 .1),
+    let map2 : ℕ = secondMap w14 w20 in
+    let x = value-exactly (bandRules w19 w20 w14 b) (setBelow w19 map2 (b - 1)) s in
+    let y = band-exactly w19 map2 b in (
+      λ e. let (hold, same) = x .0 e in (eqb-true (setBelow w19 map2 64) w14 (hold .0), (y .sound (hold .1 .0), same)),
+      λ h. x .1 ((eq-eqb (setBelow w19 map2 64) w14 (h .0), (y .complete (h .1 .0), tt)), h .1 .1),
     )
+
+-- where there are at most 32 bands, W20 has no part in the answer
+pub second-map-unread : (w19 w20 w14 b : ℕ) → w14 ≤ 32 → bandSlot w19 w20 w14 b ≡ bandSlot w19 0 w14 b
+unfolding bandSlot bandRules
+second-map-unread w19 w20 w14 b h = rw (le-leb w14 32 h)
+
+-- two bands, with a bit set in each of W19 and W20: of W19 and W20 together two bits are set, but W20 does not count, and the map is unusable
+pub two-bands-one-bit : bandSlot 1 1 2 33 ≡ refuses 4 19
+unfolding bandSlot bandRules setBelow mapBit firstFault first judge
+two-bands-one-bit = refl
 
 -- the slot of a band is one of the slots of an element
 pub band-inside : (w19 w20 w14 b s : ℕ) → bandSlot w19 w20 w14 b ≡ gives s → s < w14
 band-inside w19 w20 w14 b s e =
     let (all, (has, same)) = band-slot-exactly w19 w20 w14 b s .0 e in
-    omega (arith, all, same, below-set w19 w20 (b - 1) 64 (has .set) (omega (arith, has .from, has .to)))
+    omega (arith, all, same, below-set w19 (secondMap w14 w20) (b - 1) 64 (has .set) (omega (arith, has .from, has .to)))
 
 -- no two bands have one slot
 pub band-only : (w19 w20 w14 b c s : ℕ) → bandSlot w19 w20 w14 b ≡ gives s → bandSlot w19 w20 w14 c ≡ gives s → b ≡ c
@@ -89,8 +101,8 @@ band-only w19 w20 w14 b c s e f =
     let (all′, (has′, same′)) = band-slot-exactly w19 w20 w14 c s .0 f in
     ⊎-elim (λ q. omega (arith, q, has .from, has′ .from))
     (⊎-elim
-    (λ lt. let z : ⊥ = omega (arith, same, same′, below-set w19 w20 (b - 1) (c - 1) (has .set) lt) in absurd z)
-    (λ lt. let z : ⊥ = omega (arith, same, same′, below-set w19 w20 (c - 1) (b - 1) (has′ .set) lt) in absurd z))
+    (λ lt. let z : ⊥ = omega (arith, same, same′, below-set w19 (secondMap w14 w20) (b - 1) (c - 1) (has .set) lt) in absurd z)
+    (λ lt. let z : ⊥ = omega (arith, same, same′, below-set w19 (secondMap w14 w20) (c - 1) (b - 1) (has′ .set) lt) in absurd z))
     (compared (b - 1) (c - 1))
 
 -- a slot is answered exactly where the element has it
@@ -104,9 +116,8 @@ pub named-slot-inside : (l : AreaLayout) (c : SlotOrBand) (s : ℕ) → slotOf l
 named-slot-inside l (Slot t) s e = omega (arith, slot-itself l t s .0 e .0, slot-itself l t s .0 e .1)
 named-slot-inside l (Band b) s e = band-inside (l .map) (l .map2) (l .bands) b s e
 
--- no number above 7 is given: 8 is left to stores, and 9 to layouts that are stale
-pub slot-never : (n : ℕ) → 7 < n → (l : AreaLayout) (c : SlotOrBand) → ¬ (slotOf l c ≡ refuses n 0)
+-- no number above 7 is given, at any place: 8 is left to stores, and 9 to layouts that are stale
+pub slot-never : (n p : ℕ) → 7 < n → (l : AreaLayout) (c : SlotOrBand) → ¬ (slotOf l c ≡ refuses n p)
 unfolding bandSlot bandRules
-slot-never n h l (Slot s) = never-refused (rule (ltb s (l .bands)) 7 0 ∷ []) s n 0 (λ e. omega (arith, e, h), tt)
-slot-never n h l (Band b) =
-    never-refused (bandRules (l .map) (l .map2) (l .bands) b) (setBelow (l .map) (l .map2) (b - 1)) n 0 (λ e. omega (arith, e, h), (λ e. omega (arith, e, h), tt))
+slot-never n p h l (Slot s) = never-refused (rule (ltb s (l .bands)) 7 0 ∷ []) s n p (λ e. omega (arith, e, h), tt)
+slot-never n p h l (Band b) = never-refused (bandRules (l .map) (l .map2) (l .bands) b) _ n p (λ e. omega (arith, e, h), (λ e. omega (arith, e, h), tt))

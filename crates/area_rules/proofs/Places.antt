@@ -2,27 +2,45 @@
 -- refuses it. Refusal 9 is left to layouts that are stale.
 -- Assumes nothing.
 use mathlib.Core.Path.{_≡_, refl}
+use mathlib.Core.Bool.{false}
 use mathlib.Core.Logic.{_↔_}
-use Prim.Native.Nat.{ℕ, _≤_, _<_}
-use Rattle.refusal_rules.specs.Answers.{gives, refuses, place}
+use mathlib.Core.List.{[], _∷_}
+use Prim.Native.Nat.{ℕ, _*_, _<_}
+use Rattle.refusal_rules.specs.Answers.{gives, refuses, andThen, place}
+use Rattle.refusal_rules.specs.Rules.{rule, firstFault, first, judge}
 use Rattle.refusal_rules.specs.declared.Place.{Place}
 use Rattle.refusal_rules.proofs.Answers.{then-gives, then-never, value-exactly, never-refused, above-seven}
-use Rattle.area_rules.specs.Samples.{lineStart, sampleAddress, IsSample, AreaFits}
+use Rattle.area_rules.specs.Samples.{lineLengthIn, lineStart, sampleAddress, IsSample, AreaFits}
 use Rattle.area_rules.specs.declared.AreaLayout.{AreaLayout}
 use Rattle.area_rules.specs.Bands.{slotOf}
+use Rattle.area_rules.specs.Bounds.{areaBounded}
 use Rattle.area_rules.specs.declared.SlotOrBand.{SlotOrBand}
 use Rattle.area_rules.proofs.Bands.{named-slot-inside, slot-never}
-use Rattle.area_rules.specs.Places.{lineRules, lineStartOf, sampleRules, samplePlace}
+use Rattle.area_rules.specs.Places.{lengthOfLine, lengthOfData, lineRules, lineStartOf, sampleRules, samplePlace}
 use Rattle.area_rules.proofs.Bounds.{area-bounds, area-bounded}
 use Rattle.area_rules.proofs.Tables.{lines-hold, samples-hold}
 
 module _ (l : AreaLayout) (fits : AreaFits l) where
-  -- a line of an accepted file begins where it does, and DATA ends where line W9 would begin
-  pub line-begins : (i : ℕ) → i ≤ l .lines → lineStartOf l i ≡ gives (lineStart l i)
+  -- a line of an accepted file has its length
+  pub line-length : lengthOfLine l ≡ gives (lineLengthIn l)
+  unfolding lengthOfLine
+  line-length = value-exactly (rule (areaBounded l) 7 0 ∷ []) (lineLengthIn l) (lineLengthIn l) .1 ((area-bounded l fits, tt), refl)
+
+  -- DATA of an accepted file has the bytes of its lines
+  pub data-length : lengthOfData l ≡ gives (l .lines * lineLengthIn l)
+  unfolding lengthOfData
+  data-length =
+      value-exactly (rule (areaBounded l) 7 0 ∷ []) (l .lines * lineLengthIn l) (l .lines * lineLengthIn l) .1 ((area-bounded l fits, tt), refl)
+
+  -- the start of a line is answered exactly where there is such a line, and then it is W34 + l·(line length)
+  pub line-start : (i s : ℕ) → (lineStartOf l i ≡ gives s) ↔ ((i < l .lines) × (s ≡ lineStart l i))
   unfolding lineStartOf
-  line-begins i h =
-      value-exactly (lineRules l i) (lineStart l i) (lineStart l i) .1
-      (lines-hold l i .1 (area-bounds l .sound (area-bounded l fits), h), refl)
+  line-start i s =
+      let x = value-exactly (lineRules l i) (lineStart l i) s in
+      let y = lines-hold l i in (
+        λ e. (y .0 (x .0 e .0) .1, x .0 e .1),
+        λ h. x .1 (y .1 (area-bounds l .sound (area-bounded l fits), h .0), h .1),
+      )
 
   -- a sample has a place exactly where its slot or band means a slot and there is such a sample, and then at W34 + l·(line length) + W15 + (e·W14 + s)·W11
   pub sample-place : (i e : ℕ) (c : SlotOrBand) (p : Place)
@@ -44,9 +62,24 @@ module _ (l : AreaLayout) (fits : AreaFits l) where
         ),
   )
 
--- the place of a sample, by a layout alone, is never refused with a number above 7
-pub sample-never : (n : ℕ) → 7 < n → (l : AreaLayout) (i e : ℕ) (c : SlotOrBand) → ¬ (samplePlace l i e c ≡ refuses n 0)
+-- the place of a sample, by a layout alone, is never refused with a number above 7, at any place
+pub sample-never : (n p : ℕ) → 7 < n → (l : AreaLayout) (i e : ℕ) (c : SlotOrBand) → ¬ (samplePlace l i e c ≡ refuses n p)
 unfolding samplePlace sampleRules
-sample-never n h l i e c =
-    then-never _ (slotOf l c) n 0 (slot-never n h l c)
-    (λ s. never-refused (sampleRules l i e) _ n 0 (above-seven h, (above-seven h, (above-seven h, tt))))
+sample-never n p h l i e c =
+    then-never _ (slotOf l c) n p (slot-never n p h l c)
+    (λ s. never-refused (sampleRules l i e) _ n p (above-seven h, (above-seven h, (above-seven h, tt))))
+
+-- A layout with lines, elements, bytes of a sample or bands above what opening accepts, which only a caller can have made up, has no line and no sample: 7, after
+-- the refusal of the slot or band. The other fields that addresses are computed from, the prefix and W34, are not tested: whatever they are, no sum of them fails.
+module _ (l : AreaLayout) (above : areaBounded l ≡ false) where
+  pub length-unbounded : (lengthOfLine l ≡ refuses 7 0) × (lengthOfData l ≡ refuses 7 0)
+  unfolding lengthOfLine lengthOfData firstFault first judge
+  length-unbounded = (rw above, rw above)
+
+  pub line-unbounded : (i : ℕ) → lineStartOf l i ≡ refuses 7 0
+  unfolding lineStartOf lineRules firstFault first judge
+  line-unbounded i = rw above
+
+  pub sample-unbounded : (i e : ℕ) (c : SlotOrBand) → samplePlace l i e c ≡ andThen (slotOf l c) (λ s. refuses 7 0)
+  unfolding samplePlace sampleRules firstFault first judge
+  sample-unbounded i e c = rw above

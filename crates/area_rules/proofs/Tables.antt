@@ -1,9 +1,9 @@
 -- What the tables of rules of AREA places ask, as statements: each holds exactly where there is such a line, or such a line and element.
 -- Assumes nothing.
 use mathlib.Core.Logic.{_↔_}
-use Prim.Native.Nat.{ℕ, _≤_, _<_}
+use Prim.Native.Nat.{ℕ, _<_}
 use Rattle.refusal_rules.specs.Rules.{Hold}
-use Rattle.refusal_rules.proofs.Exactness.{le-exactly, lt-exactly}
+use Rattle.refusal_rules.proofs.Exactness.{lt-exactly}
 use Rattle.refusal_rules.proofs.Tables.{also}
 use Rattle.area_rules.specs.declared.AreaLayout.{AreaLayout}
 use Rattle.area_rules.specs.Bounds.{AreaBounds}
@@ -11,11 +11,11 @@ use Rattle.area_rules.specs.Places.{lineRules, sampleRules}
 use Rattle.area_rules.proofs.Bounds.{area-bounds}
 
 -- a line
-pub lines-hold : (l : AreaLayout) (i : ℕ) → Hold (lineRules l i) ↔ (AreaBounds l × (i ≤ l .lines))
+pub lines-hold : (l : AreaLayout) (i : ℕ) → Hold (lineRules l i) ↔ (AreaBounds l × (i < l .lines))
 unfolding lineRules
 lines-hold l i = (
-  λ h. (area-bounds l .sound (h .0), le-exactly i (l .lines) .sound (h .1 .0)),
-  λ p. also (area-bounds l .complete (p .0)) (also (le-exactly i (l .lines) .complete (p .1)) tt),
+  λ h. (area-bounds l .sound (h .0), lt-exactly i (l .lines) .sound (h .1 .0)),
+  λ p. also (area-bounds l .complete (p .0)) (also (lt-exactly i (l .lines) .complete (p .1)) tt),
 )
 
 -- a line and an element

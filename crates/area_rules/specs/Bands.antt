@@ -3,7 +3,7 @@
 use mathlib.Core.Bool.{Bool}
 use mathlib.Core.List.{List, [], _∷_}
 use Prim.Native.Nat.{ℕ, zero, suc, _+_, _-_, _/_, _%_, _^_}
-use lib.Dec.{ltb, eqb}
+use lib.Dec.{leb, ltb, eqb}
 use Rattle.lists.specs.Choices.{pick, both}
 use Rattle.refusal_rules.specs.Answers.{Answer, answered}
 use Rattle.refusal_rules.specs.Rules.{Rule, rule, firstFault}
@@ -16,8 +16,12 @@ use Rattle.area_rules.specs.declared.SlotOrBand.the-variants.{Slot, Band
 abbrev pub bitOf : ℕ → ℕ → ℕ
 bitOf n i = n / 2 ^ i % 2
 
--- Bit i of the band map: "Band b lies at bit b-1 of W19 for 1 to 32, and at bit b-33 of W20 for 33 to 64". Band b has bit b - 1 of the whole map. W20
--- counts only if W14 is above 32: in a layout it is 0 otherwise.
+-- W20 as it counts in a band map of W14 bands: "W20 counting only if W14 is above 32". Where it does not count, no bit of it is set.
+abbrev pub secondMap : ℕ → ℕ → ℕ
+secondMap w14 w20 = pick (leb w14 32) 0 w20
+
+-- Bit i of the band map: "Band b lies at bit b-1 of W19 for 1 to 32, and at bit b-33 of W20 for 33 to 64". Band b has bit b - 1 of the whole map; W20 is given
+-- as it counts.
 unfoldable pub mapBit : ℕ → ℕ → ℕ → ℕ
 mapBit w19 w20 i = pick (ltb i 32) (bitOf w19 i) (bitOf w20 (i - 32))
 
@@ -36,11 +40,11 @@ hasBand w19 w20 b = both (within 1 64 b) (eqb (mapBit w19 w20 (b - 1)) 1)
 
 -- the rules of a call that names band b: 4 at 19 where the band map is unusable, then 7 where it has no such band
 unfoldable pub bandRules : ℕ → ℕ → ℕ → ℕ → List Rule
-bandRules w19 w20 w14 b = rule (mapUsable w19 w20 w14) 4 19 ∷ rule (hasBand w19 w20 b) 7 0 ∷ []
+bandRules w19 w20 w14 b = rule (mapUsable w19 (secondMap w14 w20) w14) 4 19 ∷ rule (hasBand w19 (secondMap w14 w20) b) 7 0 ∷ []
 
 -- the slot of band b: "the slot is the number of set bits below b's own"
 unfoldable pub bandSlot : ℕ → ℕ → ℕ → ℕ → Answer ℕ
-bandSlot w19 w20 w14 b = answered (firstFault (bandRules w19 w20 w14 b)) (setBelow w19 w20 (b - 1))
+bandSlot w19 w20 w14 b = answered (firstFault (bandRules w19 w20 w14 b)) (setBelow w19 (secondMap w14 w20) (b - 1))
 
 -- the slot that a caller means who names a slot or a band: a slot is one of the W14 slots of an element, and "a band stands for its slot"
 abbrev pub slotOf : AreaLayout → SlotOrBand → Answer ℕ

@@ -3,7 +3,7 @@
 use mathlib.Core.Bool.{Bool}
 use mathlib.Core.List.{List, [], _∷_}
 use Prim.Native.Nat.{ℕ}
-use lib.Dec.{leb, eqb}
+use lib.Dec.{eqb}
 use lib.ListN.{length}
 use Rattle.endian_rules.specs.Words.{orderNumber}
 use Rattle.endian_rules.specs.declared.Order.{Order}
@@ -12,6 +12,7 @@ use Rattle.refusal_rules.specs.Rules.{firstFault}
 use Rattle.refusal_rules.specs.Answers.{Answer, gives, refuses, answered}
 use Rattle.refusal_rules.specs.Tests.{sameNumbers}
 use Rattle.area_rules.specs.Rules.{directoryOf, wordIn, areaOrder, areaWordRules, areaRules}
+use Rattle.area_rules.specs.Bands.{secondMap}
 use Rattle.area_rules.specs.declared.AreaLayout.{AreaLayout}
 use Rattle.area_rules.specs.declared.AreaOpening.{AreaOpening}
 use Rattle.area_rules.specs.declared.AreaOpening.the-variants.{Opened, Refused}
@@ -34,7 +35,7 @@ areaLayoutOf o told W =
       bands = W 14;
       prefix = W 15;
       map = W 19;
-      map2 = pick (leb (W 14) 32) 0 (W 20);
+      map2 = secondMap (W 14) (W 20);
       «data_start» = W 34;
       nav = W 35;
       documentation = W 49;

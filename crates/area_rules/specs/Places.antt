@@ -2,20 +2,28 @@
 -- back": where a band is named, 4 at 19; then 7. That the layout is the one of the file (9), and its kind (7), are judged before.
 -- Assumes nothing.
 use mathlib.Core.List.{List, [], _∷_}
-use Prim.Native.Nat.{ℕ}
-use lib.Dec.{leb, ltb}
+use Prim.Native.Nat.{ℕ, _*_}
+use lib.Dec.{ltb}
 use Rattle.refusal_rules.specs.Answers.{Answer, answered, andThen, place}
 use Rattle.refusal_rules.specs.Rules.{Rule, rule, firstFault}
 use Rattle.refusal_rules.specs.declared.Place.{Place}
-use Rattle.area_rules.specs.Samples.{lineStart, sampleAddress}
+use Rattle.area_rules.specs.Samples.{lineLengthIn, lineStart, sampleAddress}
 use Rattle.area_rules.specs.declared.AreaLayout.{AreaLayout}
 use Rattle.area_rules.specs.Bands.{slotOf}
 use Rattle.area_rules.specs.declared.SlotOrBand.{SlotOrBand}
 use Rattle.area_rules.specs.Bounds.{areaBounded}
 
--- the rules of the start of line l: 7 where there is no such line; line W9, the one behind the last, would begin where DATA ends, and counts here
+-- how many bytes a line has by a layout, or 7 where the layout is above the bounds of opening
+unfoldable pub lengthOfLine : AreaLayout → Answer ℕ
+lengthOfLine a = answered (firstFault (rule (areaBounded a) 7 0 ∷ [])) (lineLengthIn a)
+
+-- how many bytes DATA has by a layout, which are those of its W9 lines, or 7 where the layout is above the bounds of opening
+unfoldable pub lengthOfData : AreaLayout → Answer ℕ
+lengthOfData a = answered (firstFault (rule (areaBounded a) 7 0 ∷ [])) (a .lines * lineLengthIn a)
+
+-- the rules of the start of line l: 7 where there is no such line
 unfoldable pub lineRules : AreaLayout → ℕ → List Rule
-lineRules a l = rule (areaBounded a) 7 0 ∷ rule (leb l (a .lines)) 7 0 ∷ []
+lineRules a l = rule (areaBounded a) 7 0 ∷ rule (ltb l (a .lines)) 7 0 ∷ []
 
 -- the byte at which line l begins, or the refusal
 unfoldable pub lineStartOf : AreaLayout → ℕ → Answer ℕ

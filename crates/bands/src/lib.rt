@@ -10,9 +10,16 @@ use refusal_rules::Verdict;
 ghost use mathlib.Core.Path.{_≡_};
 ghost use Prim.Native.Nat.{_<_, _≤_};
 ghost use Rattle.refusal_rules.specs.Answers.{numberSays};
-ghost use Rattle.area_rules.specs.Bands.{mapBit, setBelow, hasBand, bandSlot, slotOf};
+ghost use Rattle.area_rules.specs.Bands.{secondMap, mapBit, setBelow, hasBand, bandSlot, slotOf};
 
-// Bit i of the band map, that of band i + 1.
+// The second word of the band map of so many bands, as it counts: 0 unless there are more than 32.
+pub fn second_map(bands: u32, map2: u32) -> u32
+    ensures { λ r. ⌜ r ≡ secondMap bands map2 ⌝ }
+{
+    if bands <= 32 { 0 } else { map2 }
+}
+
+// Bit i of the band map, that of band i + 1. The second word is given as it counts.
 fn map_bit(map: u32, map2: u32, i: u32) -> u32
     requires { ⌜ i < 64 ⌝ }
     ensures { λ r. ⌜ r ≡ mapBit map map2 i ⌝ }
@@ -49,15 +56,17 @@ fn has_band(map: u32, map2: u32, band: u32) -> bool
     }
 }
 
-// The slot of a band in a map of `bands` bands. Refused with 4 at 19 where the map has not that many set bits, and with 7 where it has no such band.
+// The slot of a band in a map of `bands` bands, of which the second word counts only where there are more than 32. Refused with 4 at 19 where the map has not that many
+// set bits, and with 7 where it has no such band.
 fn slot_of_band(map: u32, map2: u32, bands: u32, band: u32) -> NumberAnswer
     ensures { λ r. ⌜ numberSays r ≡ bandSlot map map2 bands band ⌝ }
 {
-    let usable = set_below(map, map2, 64) == bands;
+    let second = second_map(bands, map2);
+    let usable = set_below(map, second, 64) == bands;
     let by_map = check(Verdict::Pass, usable, RULE_BROKEN, 19);
-    match check(by_map, has_band(map, map2, band), NO_SUCH, 0) {
+    match check(by_map, has_band(map, second, band), NO_SUCH, 0) {
         Verdict::Fault(refusal) => NumberAnswer::Refused(refusal),
-        Verdict::Pass => NumberAnswer::Value(set_below(map, map2, band - 1)),
+        Verdict::Pass => NumberAnswer::Value(set_below(map, second, band - 1)),
     }
 }
 

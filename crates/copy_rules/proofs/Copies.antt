@@ -4,6 +4,7 @@ use mathlib.Core.Path.{_≡_, refl, sym, ap, _∙_}
 use mathlib.Core.List.{List, _++_}
 use mathlib.Core.Logic.{_↔_}
 use Prim.Native.Nat.{ℕ, _≤_, _<_}
+use native.Mathlib.Decide.{decLt}
 use native.Mathlib.Omega.{arith}
 use lib.Dec.{leb}
 use lib.ListN.{length, getD, take, drop}
@@ -14,7 +15,7 @@ use Rattle.lists.proofs.Choices.{pick-cases}
 use Rattle.lists.proofs.Built.{length-listOf}
 use Rattle.lists.proofs.Filled.{length-over, over-front, over-rest, over-listOf}
 use Rattle.refusal_rules.specs.Answers.{Answer, gives, refuses}
-use Rattle.refusal_rules.proofs.Answers.{gives-refuses, mapped-refuses}
+use Rattle.refusal_rules.proofs.Answers.{gives-refuses, gives-same, refuses-alike, mapped-refuses}
 use Rattle.copy_rules.specs.Runs.{copied}
 
 -- equal refusals have one number
@@ -76,6 +77,21 @@ module _ {Value : Type 0} where
   copied-nine x out stale =
       let same = copied-refuses x out 9 0 (λ e. let z : ⊥ = omega arith in z) in
       (λ e. stale .0 (same .0 e), λ s. same .1 (stale .1 s))
+
+  -- where what is copied is not itself refused with 10, a copy is refused with 10 exactly where there is something to copy and the output is too short for it
+  pub copied-ten : (x : Answer (List Value)) (out : List Value) → ¬ (x ≡ refuses 10 0)
+      → (copied x out .0 ≡ refuses 10 0) ↔ ((l : List Value) × (x ≡ gives l) × (length out < length l))
+  copied-ten (refuses m q) out other = (λ e. absurd (other (refuses-alike e)), λ p. gives-refuses (sym (p .1)))
+  copied-ten (gives l) out other = (
+    λ e. (l, refl, short (decLt (length out) (length l)) e),
+    λ p. let same : l ≡ p .0 = gives-same (p .1) in ap (λ (r : Answer ℕ × List Value). r .0) (copied-short l out (omega (arith, p .2, ap length same))),
+  )
+    where
+      short : Dec (length out < length l) → copied (gives l) out .0 ≡ refuses 10 0 → length out < length l
+      short (yes h) e = h
+      short (no long) e =
+          let over : length l ≤ length out = omega (arith, long) in
+          gives-refuses (sym (ap (λ (r : Answer ℕ × List Value). r .0) (copied-over l out over)) ∙ e)
 
   -- the first places hold what is copied
   pub copied-front : (l out : List Value) (i : ℕ) (d : Value) → length l ≤ length out → i < length l → getD (copied (gives l) out .1) i d ≡ getD l i d

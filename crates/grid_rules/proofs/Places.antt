@@ -2,14 +2,17 @@
 -- Refusal 9 is left to layouts that are stale.
 -- Assumes nothing.
 use mathlib.Core.Path.{_≡_}
+use mathlib.Core.Bool.{false}
 use mathlib.Core.Logic.{_↔_}
 use Prim.Native.Nat.{ℕ, _<_}
 use Rattle.refusal_rules.specs.Answers.{gives, refuses, wordPlace}
+use Rattle.refusal_rules.specs.Rules.{firstFault, first, judge}
 use Rattle.refusal_rules.specs.declared.Place.{Place}
 use Rattle.refusal_rules.proofs.Answers.{value-exactly, never-refused, above-seven}
 use Rattle.grid_rules.specs.Points.{pointWord, IsPoint, GridFits}
 use Rattle.grid_rules.specs.declared.GridLayout.{GridLayout}
 use Rattle.grid_rules.specs.Places.{pointRules, pointPlace}
+use Rattle.grid_rules.specs.Bounds.{gridBounded}
 use Rattle.grid_rules.proofs.Bounds.{grid-bounds, grid-bounded}
 use Rattle.grid_rules.proofs.Tables.{points-hold}
 
@@ -24,7 +27,13 @@ point-place l fits r c p =
       λ h. x .1 (y .1 (grid-bounds l .sound (grid-bounded l fits), h .0), h .1),
     )
 
--- the place of a point, by a layout alone, is never refused with a number above 7
-pub point-never : (n : ℕ) → 7 < n → (l : GridLayout) (r c : ℕ) → ¬ (pointPlace l r c ≡ refuses n 0)
+-- the place of a point, by a layout alone, is never refused with a number above 7, at any place
+pub point-never : (n p : ℕ) → 7 < n → (l : GridLayout) (r c : ℕ) → ¬ (pointPlace l r c ≡ refuses n p)
 unfolding pointPlace pointRules
-point-never n h l r c = never-refused (pointRules l r c) _ n 0 (above-seven h, (above-seven h, (above-seven h, tt)))
+point-never n p h l r c = never-refused (pointRules l r c) _ n p (above-seven h, (above-seven h, (above-seven h, tt)))
+
+-- A layout with rows or columns above what opening accepts, which only a caller can have made up, has no point: 7. The offset, the other field that addresses are
+-- computed from, is not tested: whatever it is, no sum of it fails.
+pub point-unbounded : (l : GridLayout) → gridBounded l ≡ false → (r c : ℕ) → pointPlace l r c ≡ refuses 7 0
+unfolding pointPlace pointRules firstFault first judge
+point-unbounded l above r c = rw above

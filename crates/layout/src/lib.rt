@@ -12,12 +12,11 @@ use md::same_md;
 use md_rules::MdLayout;
 use md_rules::MdOpening;
 ghost use mathlib.Core.Path.{_≡_};
-ghost use Rattle.refusal_rules.specs.Answers.{mapped, gives};
-ghost use Rattle.refusal_rules.specs.Tests.{Exactly};
+ghost use Rattle.refusal_rules.specs.Answers.{mapped};
 ghost use Rattle.area_rules.specs.Opening.{openArea, areaSays};
 ghost use Rattle.grid_rules.specs.Opening.{openGrid, gridSays};
 ghost use Rattle.md_rules.specs.Opening.{openMd, mdSays};
-ghost use Rattle.layout_rules.specs.Layouts.{openingSays, layoutOrder, givesThat, reopened};
+ghost use Rattle.layout_rules.specs.Layouts.{openingSays, layoutOrder, givesThat, isFresh};
 
 // Opens an AREA file, which finds its byte order by itself. Refused as `area::open`.
 pub fn open_area(file: &[u8]) -> Opening
@@ -93,7 +92,7 @@ fn is_md(opening: MdOpening, layout: MdLayout) -> bool
 // Whether opening these bytes by the layout's own kind, byte order and grid number gives that very layout, in every field, the file's length
 // too. A layout of which this is false is stale. Nothing is computed from a layout's fields before this.
 pub fn is_fresh(file: &[u8], layout: Layout) -> bool
-    ensures { λ r. ⌜ Exactly r (reopened (now (file .entry)) layout ≡ gives layout) ⌝ }
+    ensures { λ r. ⌜ r ≡ isFresh (now (file .entry)) layout ⌝ }
 {
     match layout {
         Layout::Area(l) => is_area(area::open(file), l),

@@ -1,7 +1,7 @@
 -- A layout is fresh exactly where opening these bytes, by the layout's own kind, order and grid number, gives it; and what a call finds by file
 -- and layout.
 -- Assumes nothing.
-use mathlib.Core.Path.{_≡_, refl, sym, ap, subst, _∙_}
+use mathlib.Core.Path.{_≡_, refl, sym, ap, _∙_}
 use mathlib.Core.Bool.{Bool, true, false, false≢true}
 use mathlib.Core.Logic.{_↔_}
 use mathlib.Core.List.{List}
@@ -76,10 +76,6 @@ pub fresh-exactly : (f : List ℕ) (l : Layout) → Exactly (isFresh f l) (Fresh
 unfolding isFresh
 fresh-exactly f l = that-exactly l (reopened f l)
 
--- so a test that equals it tells it exactly
-pub fresh-told : (f : List ℕ) (l : Layout) {t : Bool} → t ≡ isFresh f l → Exactly t (Fresh f l)
-fresh-told f l e = subst (λ t. Exactly t (Fresh f l)) (sym e) (fresh-exactly f l)
-
 -- ---- what a call finds by file and layout
 
 module _ {Value : Type 0} (own : Layout → Answer Value) (f : List ℕ) (l : Layout) where
@@ -97,12 +93,12 @@ module _ {Value : Type 0} (own : Layout → Answer Value) (f : List ℕ) (l : La
   unfolding found
   found-fresh h = ap (λ t. pick t (own l) (refuses 9 0)) (fresh-exactly f l .complete h)
 
-  -- by a test that tells which
-  pub found-told : {t : Bool} → Exactly t (Fresh f l) → t ≡ true → found own f l ≡ own l
-  found-told x e = found-fresh (x .sound e)
+  -- by the test that tells which
+  pub found-told : {t : Bool} → t ≡ isFresh f l → t ≡ true → found own f l ≡ own l
+  found-told x e = found-fresh (fresh-exactly f l .sound (sym x ∙ e))
 
-  pub stale-told : {t : Bool} → Exactly t (Fresh f l) → t ≡ false → found own f l ≡ refuses 9 0
-  stale-told x e = found-stale (λ h. false≢true (sym e ∙ x .complete h))
+  pub stale-told : {t : Bool} → t ≡ isFresh f l → t ≡ false → found own f l ≡ refuses 9 0
+  stale-told x e = found-stale (λ h. false≢true (sym e ∙ x ∙ fresh-exactly f l .complete h))
 
   -- any answer but refusal 9 is that of a fresh layout
   pub found-only : (x : Answer Value) → ¬ (x ≡ refuses 9 0) → (found own f l ≡ x) ↔ (Fresh f l × (own l ≡ x))

@@ -4,7 +4,8 @@
 use mathlib.Core.Path.{_≡_, refl, sym, ap, subst, _∙_}
 use mathlib.Core.Logic.{_↔_}
 use mathlib.Core.List.{List}
-use Prim.Native.Nat.{ℕ}
+use Prim.Native.Nat.{ℕ, _<_}
+use native.Mathlib.Omega.{arith}
 use Rattle.refusal_rules.specs.Answers.{Answer, gives, refuses, andThen}
 use Rattle.refusal_rules.proofs.Answers.{gives-refuses, gives-same, mapped-gives, then-never, then-refused, seven-only, nine}
 use Rattle.area_rules.specs.Opening.{openArea}
@@ -45,46 +46,50 @@ fresh-md f l = mapped-gives Md (λ v w e. cc) (openMd (l .order) f) l
 record OneKind {Value : Type 0} (kind : Value → Layout) (own : Layout → Answer Value) : Type 0 where
   given : (v : Value) → own (kind v) ≡ gives v
   only : (l : Layout) (v : Value) → own l ≡ gives v → l ≡ kind v
-  never : (l : Layout) → ¬ (own l ≡ refuses 9 0)
+  never : (n : ℕ) → 7 < n → (l : Layout) → ¬ (own l ≡ refuses n 0)
 
 area-kind : OneKind Area asArea
-area-kind = record { given = λ v. refl; only = λ l. only l; never = λ l. never l }
+area-kind = record { given = λ v. refl; only = λ l. only l; never = λ n h l. never n h l }
   where
     only : (l : Layout) (v : AreaLayout) → asArea l ≡ gives v → l ≡ Area v
     only (Area l) v e = ap Area (gives-same e)
     only (Grid l) v e = gives-refuses (sym e)
     only (Md l) v e = gives-refuses (sym e)
 
-    never : (l : Layout) → ¬ (asArea l ≡ refuses 9 0)
-    never (Area l) e = gives-refuses e
-    never (Grid l) e = seven-only nine e
-    never (Md l) e = seven-only nine e
+    never : (n : ℕ) → 7 < n → (l : Layout) → ¬ (asArea l ≡ refuses n 0)
+    never n h (Area l) e = gives-refuses e
+    never n h (Grid l) e = seven-only h e
+    never n h (Md l) e = seven-only h e
 
 grid-kind : OneKind Grid asGrid
-grid-kind = record { given = λ v. refl; only = λ l. only l; never = λ l. never l }
+grid-kind = record { given = λ v. refl; only = λ l. only l; never = λ n h l. never n h l }
   where
     only : (l : Layout) (v : GridLayout) → asGrid l ≡ gives v → l ≡ Grid v
     only (Area l) v e = gives-refuses (sym e)
     only (Grid l) v e = ap Grid (gives-same e)
     only (Md l) v e = gives-refuses (sym e)
 
-    never : (l : Layout) → ¬ (asGrid l ≡ refuses 9 0)
-    never (Area l) e = seven-only nine e
-    never (Grid l) e = gives-refuses e
-    never (Md l) e = seven-only nine e
+    never : (n : ℕ) → 7 < n → (l : Layout) → ¬ (asGrid l ≡ refuses n 0)
+    never n h (Area l) e = seven-only h e
+    never n h (Grid l) e = gives-refuses e
+    never n h (Md l) e = seven-only h e
 
 md-kind : OneKind Md asMd
-md-kind = record { given = λ v. refl; only = λ l. only l; never = λ l. never l }
+md-kind = record { given = λ v. refl; only = λ l. only l; never = λ n h l. never n h l }
   where
     only : (l : Layout) (v : MdLayout) → asMd l ≡ gives v → l ≡ Md v
     only (Area l) v e = gives-refuses (sym e)
     only (Grid l) v e = gives-refuses (sym e)
     only (Md l) v e = ap Md (gives-same e)
 
-    never : (l : Layout) → ¬ (asMd l ≡ refuses 9 0)
-    never (Area l) e = seven-only nine e
-    never (Grid l) e = seven-only nine e
-    never (Md l) e = gives-refuses e
+    never : (n : ℕ) → 7 < n → (l : Layout) → ¬ (asMd l ≡ refuses n 0)
+    never n h (Area l) e = seven-only h e
+    never n h (Grid l) e = seven-only h e
+    never n h (Md l) e = gives-refuses e
+
+-- 10 is not 9
+ten-nine : {Value : Type 0} → ¬ (_≡_ {A = Answer Value} (refuses 10 0) (refuses 9 0))
+ten-nine e = let same : _≡_ {A = ℕ} 10 9 = cc in let z : ⊥ = omega arith in z
 
 -- what a call of a kind finds
 module _ {Value : Type 0} {kind : Value → Layout} {own : Layout → Answer Value} (k : OneKind kind own) (f : List ℕ) (l : Layout) where
@@ -100,11 +105,15 @@ module _ {Value : Type 0} {kind : Value → Layout} {own : Layout → Answer Val
 
   -- 9 exactly where the layout is stale
   stale-found : (found own f l ≡ refuses 9 0) ↔ (¬ Fresh f l)
-  stale-found = stale-exactly own f l (k .never l)
+  stale-found = stale-exactly own f l (k .never 9 nine l)
 
   -- 7 exactly where it is fresh, and of another kind
   other-found : (found own f l ≡ refuses 7 0) ↔ (Fresh f l × (own l ≡ refuses 7 0))
   other-found = found-only own f l (refuses 7 0) (seven-only nine)
+
+  -- never 10
+  ten-found : ¬ (found own f l ≡ refuses 10 0)
+  ten-found e = k .never 10 (omega arith) l (found-only own f l (refuses 10 0) (λ same. ten-nine same) .0 e .1)
 
   -- a call that goes on with the layout, and never refuses 9 by itself, refuses it exactly where the layout is stale
   then-stale : {Other : Type 0} (h : Value → Answer Other) → ((v : Value) → ¬ (h v ≡ refuses 9 0))
@@ -126,10 +135,15 @@ area-found f l a =
 pub area-known : (f : List ℕ) (l : Layout) (a : AreaLayout) → areaOf f l ≡ gives a → AreaOf f a
 area-known f l a e = area-of f a (area-found f l a .0 e .1)
 
--- it is refused with 9 exactly where the layout is stale, and with 7 exactly where it is fresh, and of another kind
+-- it is refused with 9 exactly where the layout is stale
 pub area-stale : (f : List ℕ) (l : Layout) → (areaOf f l ≡ refuses 9 0) ↔ (¬ Fresh f l)
 area-stale f l = stale-found area-kind f l
 
+-- never with 10, which is left to outputs that are too short
+pub area-ten : (f : List ℕ) (l : Layout) → ¬ (areaOf f l ≡ refuses 10 0)
+area-ten f l = ten-found area-kind f l
+
+-- with 7 exactly where it is fresh, and of another kind
 pub area-other : (f : List ℕ) (l : Layout) → (areaOf f l ≡ refuses 7 0) ↔ (Fresh f l × (asArea l ≡ refuses 7 0))
 area-other f l = other-found area-kind f l
 
@@ -152,6 +166,9 @@ grid-known f l g e = grid-of (g .order) f (g .number) g (grid-found f l g .0 e .
 pub grid-stale : (f : List ℕ) (l : Layout) → (gridOf f l ≡ refuses 9 0) ↔ (¬ Fresh f l)
 grid-stale f l = stale-found grid-kind f l
 
+pub grid-ten : (f : List ℕ) (l : Layout) → ¬ (gridOf f l ≡ refuses 10 0)
+grid-ten f l = ten-found grid-kind f l
+
 pub grid-other : (f : List ℕ) (l : Layout) → (gridOf f l ≡ refuses 7 0) ↔ (Fresh f l × (asGrid l ≡ refuses 7 0))
 grid-other f l = other-found grid-kind f l
 
@@ -171,6 +188,9 @@ md-known f l m e = md-of (m .order) f m (md-found f l m .0 e .1)
 
 pub md-stale : (f : List ℕ) (l : Layout) → (mdOf f l ≡ refuses 9 0) ↔ (¬ Fresh f l)
 md-stale f l = stale-found md-kind f l
+
+pub md-ten : (f : List ℕ) (l : Layout) → ¬ (mdOf f l ≡ refuses 10 0)
+md-ten f l = ten-found md-kind f l
 
 pub md-other : (f : List ℕ) (l : Layout) → (mdOf f l ≡ refuses 7 0) ↔ (Fresh f l × (asMd l ≡ refuses 7 0))
 md-other f l = other-found md-kind f l

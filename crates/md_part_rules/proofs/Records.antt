@@ -3,24 +3,25 @@
 use mathlib.Core.Path.{_≡_, refl, sym, ap, _∙_}
 use mathlib.Core.Logic.{_↔_}
 use mathlib.Core.List.{List, _++_}
-use Prim.Native.Nat.{ℕ, _+_, _-_, _*_, _≤_}
+use Prim.Native.Nat.{ℕ, _+_, _-_, _*_, _≤_, _<_}
 use native.Mathlib.Omega.{arith}
 use lib.IntN.{ℤ, pos}
 use lib.ListN.{length, getD, length-append, List·getD-append}
 use lib.Seq.{getD-append-add}
 use Rattle.lists.proofs.Built.{getD-listOf}
 use Rattle.endian_rules.specs.Words.{signedAt}
-use Rattle.refusal_rules.specs.Answers.{refuses}
-use Rattle.refusal_rules.proofs.Answers.{never-refused, above-seven, nine}
+use Rattle.refusal_rules.specs.Answers.{gives, refuses}
+use Rattle.refusal_rules.proofs.Answers.{then-gives, then-never, value-exactly, never-refused, above-seven, nine}
 use Rattle.md_rules.specs.Accepts.{MdFits}
 use Rattle.md_rules.specs.Fields.{fieldsOf, fieldWord}
 use Rattle.md_rules.specs.declared.MdLayout.{MdLayout}
+use Rattle.layout_rules.specs.Found.{mdOf}
 use Rattle.layout_rules.specs.Layouts.{Fresh}
 use Rattle.layout_rules.specs.declared.Layout.{Layout}
-use Rattle.layout_rules.proofs.OneKind.{md-nine}
-use Rattle.copy_rules.proofs.Copies.{copied-nine}
+use Rattle.layout_rules.proofs.OneKind.{md-known, md-nine, md-ten}
+use Rattle.copy_rules.proofs.Copies.{copied-nine, copied-ten}
 use Rattle.md_part_rules.specs.Records.{partFields, recordFields, IsRecord, recordRules, recordIn, recordOf, copyRecord}
-use Rattle.md_part_rules.proofs.Fills.{row-fields, column-fields, data-fields, row-length, column-length, data-length}
+use Rattle.md_part_rules.proofs.Fills.{row-fields, column-fields, data-fields, record-holds, holds-record, row-length, column-length, data-length}
 
 -- a record has K words
 pub record-length : (f : List ℕ) (m : MdLayout) → MdFits m → {r c : ℕ} → IsRecord m r c → length (recordFields f m r c) ≡ m .keys
@@ -94,10 +95,34 @@ column-key-same f m here there k from to = column-word f m here k from to ∙ sy
 
 -- ---- a refused copy
 
-module _ (f : List ℕ) (l : Layout) (r c : ℕ) where
+-- the record of an accepted file is refused with no number above 7
+record-never : (f : List ℕ) (m : MdLayout) (r c n : ℕ) → 7 < n → ¬ (recordIn f m r c ≡ refuses n 0)
+unfolding recordIn recordRules
+record-never f m r c n h = never-refused (recordRules m r c) (recordFields f m r c) n 0 (above-seven h, (above-seven h, tt))
+
+module _ (f : List ℕ) (l : Layout) (r c : ℕ) (out : List ℤ) where
   -- a copy of a record is refused with 9 exactly where the layout is stale
-  pub record-stale : (out : List ℤ) → (copyRecord f l r c out .0 ≡ refuses 9 0) ↔ (¬ Fresh f l)
-  unfolding recordIn recordRules
-  record-stale out =
-      copied-nine (recordOf f l r c) out
-      (md-nine f l (λ m. recordIn f m r c) (λ m. never-refused (recordRules m r c) (recordFields f m r c) 9 0 (above-seven nine, (above-seven nine, tt))))
+  pub record-stale : (copyRecord f l r c out .0 ≡ refuses 9 0) ↔ (¬ Fresh f l)
+  record-stale = copied-nine (recordOf f l r c) out (md-nine f l (λ m. recordIn f m r c) (λ m. record-never f m r c 9 nine))
+
+  -- it is refused with 10 exactly where there is such a record, and the output has fewer places than the record has keys
+  pub record-short : (copyRecord f l r c out .0 ≡ refuses 10 0) ↔ ((m : MdLayout) × (mdOf f l ≡ gives m) × (IsRecord m r c × (length out < m .keys)))
+  unfolding recordIn
+  record-short =
+      let never = then-never (λ m. recordIn f m r c) (mdOf f l) 10 0 (md-ten f l) (λ m. record-never f m r c 10 (omega arith)) in
+      let y = copied-ten (recordOf f l r c) out never in (
+        λ e.
+            let (xs, given, short) = y .0 e in
+            let (m, found, value) = then-gives (λ m. recordIn f m r c) (mdOf f l) xs .0 given in
+            let (hold, same) = value-exactly (recordRules m r c) (recordFields f m r c) xs .0 value in
+            let is : IsRecord m r c = record-holds m r c hold in
+            (m, found, (is, omega (arith, short, ap length same, record-length f m (md-known f l m found .fits) is))),
+        λ p.
+            let (m, found, (is, short)) = p in
+            y .1 (
+              recordFields f m r c,
+              then-gives (λ m. recordIn f m r c) (mdOf f l) (recordFields f m r c) .1
+                  (m, found, value-exactly (recordRules m r c) (recordFields f m r c) (recordFields f m r c) .1 (holds-record m r c is, refl)),
+              omega (arith, short, record-length f m (md-known f l m found .fits) is),
+            ),
+      )

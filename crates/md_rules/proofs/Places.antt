@@ -2,13 +2,16 @@
 -- refuses it. Refusal 9 is left to layouts that are stale.
 -- Assumes nothing.
 use mathlib.Core.Path.{_≡_, refl}
+use mathlib.Core.Bool.{false}
 use mathlib.Core.Logic.{_↔_}
 use Prim.Native.Nat.{ℕ, _≤_, _<_}
 use Rattle.refusal_rules.specs.Answers.{gives, refuses, wordPlace}
+use Rattle.refusal_rules.specs.Rules.{firstFault, first, judge}
 use Rattle.refusal_rules.specs.declared.Place.{Place}
 use Rattle.refusal_rules.proofs.Answers.{value-exactly, never-refused, above-seven}
 use Rattle.md_rules.specs.Accepts.{MdFits}
 use Rattle.md_rules.specs.Fields.{fieldWord, IsField}
+use Rattle.md_rules.specs.Bounds.{mdBounded}
 use Rattle.md_rules.specs.declared.MdLayout.{MdLayout}
 use Rattle.md_rules.specs.Places.{partRules, partWord, partStartOf, fieldRules, fieldPlace}
 use Rattle.md_rules.proofs.Bounds.{md-bounds, md-bounded}
@@ -32,8 +35,19 @@ module _ (l : MdLayout) (fits : MdFits l) where
         λ h. x .1 (y .1 (md-bounds l .sound (md-bounded l fits), h .0), h .1),
       )
 
--- the place of a field, by a layout alone, is never refused with a number above 7
-pub field-never : (n : ℕ) → 7 < n → (l : MdLayout) (r c f : ℕ) → ¬ (fieldPlace l r c f ≡ refuses n 0)
+-- the place of a field, by a layout alone, is never refused with a number above 7, at any place
+pub field-never : (n p : ℕ) → 7 < n → (l : MdLayout) (r c f : ℕ) → ¬ (fieldPlace l r c f ≡ refuses n p)
 unfolding fieldPlace fieldRules partRules
-field-never n h l r c f =
-    never-refused (fieldRules l r c f) _ n 0 (above-seven h, (above-seven h, (above-seven h, (above-seven h, tt))))
+field-never n p h l r c f =
+    never-refused (fieldRules l r c f) _ n p (above-seven h, (above-seven h, (above-seven h, (above-seven h, tt))))
+
+-- A layout with rows, columns, or keys of row headers, column headers or data above what opening accepts, which only a caller can have made up, has no part and no
+-- field: 7. Words 28 and 29, the other fields that addresses are computed from, are not tested: whatever they are, no sum of them fails.
+module _ (l : MdLayout) (above : mdBounded l ≡ false) where
+  pub part-unbounded : (r c : ℕ) → partStartOf l r c ≡ refuses 7 0
+  unfolding partStartOf partRules firstFault first judge
+  part-unbounded r c = rw above
+
+  pub field-unbounded : (r c f : ℕ) → fieldPlace l r c f ≡ refuses 7 0
+  unfolding fieldPlace fieldRules partRules firstFault first judge
+  field-unbounded r c f = rw above

@@ -150,7 +150,7 @@ pub above-seven : {n : ℕ} → 7 < n → ¬ (_≡_ {A = ℕ} 7 n)
 above-seven h e = omega (arith, h, e)
 
 -- of refusals
-pub seven-only : {Value : Type 0} {n : ℕ} → 7 < n → ¬ (_≡_ {A = Answer Value} (refuses 7 0) (refuses n 0))
+pub seven-only : {Value : Type 0} {n p : ℕ} → 7 < n → ¬ (_≡_ {A = Answer Value} (refuses 7 0) (refuses n p))
 seven-only {n = n} h e = let same : _≡_ {A = ℕ} 7 n = cc in above-seven h same
 
 -- 9 is above 7

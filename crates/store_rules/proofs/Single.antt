@@ -79,7 +79,7 @@ module _ (f : List ℕ) (l : Layout) (q : Request) where
       eight-not-nine e = let same : _≡_ {A = ℕ} 8 9 = cc in omega (arith, same)
 
       never : ¬ (named ≡ refuses 8 0)
-      never e = place-never 8 (omega arith) l (valueNameOf q) (found-only (λ m. placeOf m (valueNameOf q)) f l (refuses 8 0) eight-not-nine .0 e .1)
+      never e = place-never 8 0 (omega arith) l (valueNameOf q) (found-only (λ m. placeOf m (valueNameOf q)) f l (refuses 8 0) eight-not-nine .0 e .1)
 
       step : (y : Plan Done) → Comes (layoutOrder l) bits named y → answer y ≡ refuses 8 0
           → (p : Place) × (Fresh f l × Located f l (valueNameOf q) p) × (256 ^ p .width ≤ bits)

@@ -64,7 +64,7 @@ module _ (f : List ℕ) (l : Layout) (x : ValueName) (p : Place) where
 
 -- it is refused with 9 exactly where the layout is stale
 pub place-stale : (f : List ℕ) (l : Layout) (x : ValueName) → (placeIn f l x ≡ refuses 9 0) ↔ (¬ Fresh f l)
-place-stale f l x = stale-exactly (λ m. placeOf m x) f l (place-never 9 nine l x)
+place-stale f l x = stale-exactly (λ m. placeOf m x) f l (place-never 9 0 nine l x)
 
 -- a read by any reading of a place gives a value exactly where the named value has a place, and then what is read there
 made-exactly : {Value : Type 0} (read : Place → Value) (f : List ℕ) (l : Layout) (x : ValueName) (v : Value)

@@ -1,6 +1,7 @@
 -- `area_places::line_start` meets its contract: the chain of checks is the table of rules, and its verdict picks the answer.
 -- Assumes nothing.
 use mathlib.Core.Path.{_≡_, sym, ap, _∙_}
+use native.Mathlib.Omega.{arith}
 use Rattle.refusal_rules.specs.Answers.{gives}
 use Rattle.refusal_rules.specs.Rules.{firstFault, chained}
 use Rattle.refusal_rules.proofs.Tables.{by-table, pass-hold}
@@ -31,7 +32,9 @@ enum-told : tie.Need-enum-told
 enum-told c = search needs
 
 line-at-requires : tie.Need-line-at-requires
-line-at-requires c κs = lines-hold _ _ .0 (pass-hold _ (sym (verdict (c .before .before)) ∙ c .enum-told .given .1))
+line-at-requires c κs =
+    let (bounds, line) = lines-hold _ _ .0 (pass-hold _ (sym (verdict (c .before .before)) ∙ c .enum-told .given .1)) in
+    (bounds, omega (arith, line))
 
 returns : tie.Need-returns
 unfolding lineStartOf

@@ -5,26 +5,36 @@ use native.Mathlib.Omega.{arith}
 use Rattle.refusal_rules.specs.Answers.{gives}
 use Rattle.refusal_rules.specs.Rules.{firstFault, chained}
 use Rattle.refusal_rules.proofs.Tables.{by-table, pass-hold}
-use Rattle.area_rules.specs.Bands.{bandRules, bandSlot}
+use Rattle.area_rules.specs.Bands.{secondMap, bandRules, bandSlot}
 use Rattle.area_rules.proofs.Bands.{HasBand, band-exactly}
 use borrow.Author.Needs.{needs}
 use Rattle.bands.proofs.slot_of_band.Statement.{statement}
 use Rattle.bands.proofs.slot_of_band.Tie as tie
 
 verdict : (c : tie.After-check2)
-    → let a = c .before .before .before .before .args in c .check2 .result ≡ firstFault (bandRules (a .map) (a .map2) (a .bands) (a .band))
+    → let a = c .before .before .before .before .before .args in c .check2 .result ≡ firstFault (bandRules (a .map) (a .map2) (a .bands) (a .band))
 unfolding bandRules chained
 verdict c =
     by-table
     _
-    (rw (c .check2 .ensures, c .before .has-band .ensures, c .before .before .check .ensures, c .before .before .before .set-below .ensures))
+    (rw (
+      c .check2 .ensures,
+      c .before .has-band .ensures,
+      c .before .before .check .ensures,
+      c .before .before .before .set-below .ensures,
+      c .before .before .before .before .second-map .ensures,
+    ))
 
 -- where it passes, the map has the band
-has : (c : tie.After-enum-told) → let a = c .before .before .before .before .before .before .args in HasBand (a .map) (a .map2) (a .band)
+has : (c : tie.After-enum-told)
+    → let a = c .before .before .before .before .before .before .before .args in HasBand (a .map) (secondMap (a .bands) (a .map2)) (a .band)
 unfolding bandRules
 has c =
-    let a = c .before .before .before .before .before .before .args in
-    band-exactly (a .map) (a .map2) (a .band) .sound (pass-hold _ (sym (verdict (c .before .before)) ∙ c .enum-told .given .1) .1 .0)
+    let a = c .before .before .before .before .before .before .before .args in
+    band-exactly (a .map) (secondMap (a .bands) (a .map2)) (a .band) .sound (pass-hold _ (sym (verdict (c .before .before)) ∙ c .enum-told .given .1) .1 .0)
+
+second-map-requires : tie.Need-second-map-requires
+second-map-requires c κs = search needs
 
 set-below-requires : tie.Need-set-below-requires
 set-below-requires c κs = search needs
@@ -56,12 +66,13 @@ returns c = rw (sym (verdict (c .before .before .before)) ∙ c .before .refusal
 
 returns-2 : tie.Need-returns-2
 unfolding bandSlot
-returns-2 c = rw (sym (verdict (c .before .before .before)) ∙ c .before .enum-told .given .1) (ap gives (c .set-below2 .ensures))
+returns-2 c = rw (sym (verdict (c .before .before .before)) ∙ c .before .enum-told .given .1) (ap gives (rw (c .set-below2 .ensures, c .before .before .before .before .before .before .before .second-map .ensures)))
 
 pub slot-of-band-spec : {M : Type 1} → statement M
 slot-of-band-spec =
     tie.close
     (tie.spec
+    second-map-requires
     set-below-requires
     check-requires
     has-band-requires

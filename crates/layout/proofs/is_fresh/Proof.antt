@@ -2,11 +2,9 @@
 -- Assumes nothing.
 use mathlib.Core.Path.{ap, _∙_}
 use borrow.Author.Needs.{needs}
-use denote.Ref.{now}
 use Rattle.refusal_rules.specs.Answers.{mapped}
 use Rattle.layout_rules.specs.Layouts.{openAs, givesThat, isFresh}
 use Rattle.layout_rules.specs.declared.Layout.the-variants.{Area, Grid, Md}
-use Rattle.layout_rules.proofs.Freshness.{fresh-told}
 use Rattle.layout.proofs.is_fresh.Statement.{statement}
 use Rattle.layout.proofs.is_fresh.Tie as tie
 
@@ -40,29 +38,23 @@ is-md-requires c κs = search needs
 returns : tie.Need-returns
 unfolding isFresh openAs
 returns c =
-    let a = c .before .before .before .before .before .before .args in
     let l = c .before .before .before .layout .given .0 in
     rw (c .before .before .before .layout .given .1)
-    (fresh-told (now (a .file)) (Area (l .0))
-    (c .is-area .ensures ∙ ap (λ x. givesThat (Area (l .0)) (mapped Area x)) (c .before .«open» .ensures)))
+    (c .is-area .ensures ∙ ap (λ x. givesThat (Area (l .0)) (mapped Area x)) (c .before .«open» .ensures))
 
 returns-2 : tie.Need-returns-2
 unfolding isFresh openAs
 returns-2 c =
-    let a = c .before .before .before .before .before .before .args in
     let l = c .before .before .before .layout2 .given .0 in
     rw (c .before .before .before .layout2 .given .1)
-    (fresh-told (now (a .file)) (Grid (l .0))
-    (c .is-grid .ensures ∙ ap (λ x. givesThat (Grid (l .0)) (mapped Grid x)) (c .before .open2 .ensures)))
+    (c .is-grid .ensures ∙ ap (λ x. givesThat (Grid (l .0)) (mapped Grid x)) (c .before .open2 .ensures))
 
 returns-3 : tie.Need-returns-3
 unfolding isFresh openAs
 returns-3 c =
-    let a = c .before .before .before .before .before .before .args in
     let l = c .before .before .before .layout3 .given .0 in
     rw (c .before .before .before .layout3 .given .1)
-    (fresh-told (now (a .file)) (Md (l .0))
-    (c .is-md .ensures ∙ ap (λ x. givesThat (Md (l .0)) (mapped Md x)) (c .before .open3 .ensures)))
+    (c .is-md .ensures ∙ ap (λ x. givesThat (Md (l .0)) (mapped Md x)) (c .before .open3 .ensures))
 
 pub is-fresh-spec : {M : Type 1} → statement M
 is-fresh-spec =

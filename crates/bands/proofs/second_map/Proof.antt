@@ -1,8 +1,8 @@
--- `area::second_map` meets its contract: the test of the code is that of the definition.
+-- `bands::second_map` meets its contract: the test of the code is that of the definition.
 -- Assumes nothing.
 use borrow.Author.Tests.{le-leb, lt-leb}
-use Rattle.area.proofs.second_map.Statement.{statement}
-use Rattle.area.proofs.second_map.Tie as tie
+use Rattle.bands.proofs.second_map.Statement.{statement}
+use Rattle.bands.proofs.second_map.Tie as tie
 
 returns : tie.Need-returns
 returns c = rw (le-leb _ _ (c .if1 .taken))
