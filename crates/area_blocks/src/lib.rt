@@ -1,5 +1,5 @@
 // The blocks of an AREA file: where each lies, and its bytes handed back.
-use area_places::line_start;
+use area_places::data_length;
 use area_rules::AreaLayout;
 use area_rules::AreaOpening;
 use area_rules::Block;
@@ -15,7 +15,7 @@ ghost use mathlib.Core.Path.{_≡_};
 ghost use Prim.Native.Nat.{_<_};
 ghost use Rattle.area_rules.specs.Blocks.{nearerStart, nextStart, blockStarts};
 ghost use Rattle.area_rules.specs.Samples.{AreaFits};
-ghost use Rattle.span_rules.specs.Spans.{spanSays, handed};
+ghost use Rattle.span_rules.specs.Spans.{spanSays, lentBytes, thatPart};
 ghost use Rattle.area_part_rules.specs.Blocks.{optionalBlockOf, blockOf, blockSpan};
 
 // The start s where it is greater than x and before n, else n: one step of the search for the next greater start.
@@ -59,22 +59,21 @@ fn optional_span(l: AreaLayout, x: u32) -> SpanAnswer
     })
 }
 
-// The span of DATA.
+// The span of DATA, which has the bytes of its lines.
 fn data_span(l: AreaLayout) -> SpanAnswer
     requires { ⌜ AreaFits l ⌝ }
     ensures { λ r. ⌜ spanSays r ≡ blockOf l Block.Data ⌝ }
 {
-    let start = l.data_start as usize;
-    match line_start(l, l.lines) {
+    match data_length(l) {
         SizeAnswer::Refused(refusal) => SpanAnswer::Refused(refusal),
-        SizeAnswer::Value(end) => SpanAnswer::At(Span {
-            start: start,
-            length: end - start,
+        SizeAnswer::Value(length) => SpanAnswer::At(Span {
+            start: l.data_start as usize,
+            length: length,
         }),
     }
 }
 
-// The span of AUDIT, which is absent where there are no comment cards.
+// The span of AUDIT, which is straight after DATA, and absent where there are no comment cards.
 fn audit_span(l: AreaLayout) -> SpanAnswer
     requires { ⌜ AreaFits l ⌝ }
     ensures { λ r. ⌜ spanSays r ≡ blockOf l Block.Audit ⌝ }
@@ -85,10 +84,10 @@ fn audit_span(l: AreaLayout) -> SpanAnswer
             place: 0,
         });
     }
-    match line_start(l, l.lines) {
+    match data_length(l) {
         SizeAnswer::Refused(refusal) => SpanAnswer::Refused(refusal),
-        SizeAnswer::Value(start) => SpanAnswer::At(Span {
-            start: start,
+        SizeAnswer::Value(data) => SpanAnswer::At(Span {
+            start: l.data_start as usize + data,
             length: 80 * l.cards as usize,
         }),
     }
@@ -125,7 +124,7 @@ pub fn block_span(file: &[u8], layout: Layout, block: Block) -> SpanAnswer
 
 // A block of an AREA file, handed back as that part of the file; empty where `block_span` refuses.
 pub fn block_bytes(file: &[u8], layout: Layout, block: Block) -> &[u8]
-    ensures { λ r. ⌜ now r ≡ handed (now (file .entry)) (blockSpan (now (file .entry)) layout block) ⌝ }
+    ensures { λ r. ⌜ lentBytes r ≡ thatPart (file .entry) (blockSpan (now (file .entry)) layout block) ⌝ }
 {
     hand_back(file, block_span(file, layout, block))
 }

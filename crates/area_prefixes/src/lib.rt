@@ -16,7 +16,7 @@ use span_steps::hand_back;
 ghost use mathlib.Core.Path.{_≡_};
 ghost use Rattle.area_rules.specs.Blocks.{regionLength, regionOffset};
 ghost use Rattle.area_rules.specs.Samples.{AreaFits};
-ghost use Rattle.span_rules.specs.Spans.{spanSays, handed};
+ghost use Rattle.span_rules.specs.Spans.{spanSays, lentBytes, thatPart};
 ghost use Rattle.area_part_rules.specs.Regions.{regionOf, regionSpan};
 
 // How many bytes a region of a line prefix has.
@@ -76,7 +76,7 @@ pub fn region_span(file: &[u8], layout: Layout, line: u32, region: Region) -> Sp
 
 // A region of a line's prefix, handed back as that part of the file; empty where `region_span` refuses.
 pub fn region_bytes(file: &[u8], layout: Layout, line: u32, region: Region) -> &[u8]
-    ensures { λ r. ⌜ now r ≡ handed (now (file .entry)) (regionSpan (now (file .entry)) layout line region) ⌝ }
+    ensures { λ r. ⌜ lentBytes r ≡ thatPart (file .entry) (regionSpan (now (file .entry)) layout line region) ⌝ }
 {
     hand_back(file, region_span(file, layout, line, region))
 }

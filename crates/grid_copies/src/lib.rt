@@ -13,7 +13,7 @@ ghost use mathlib.Core.Path.{_≡_};
 ghost use Rattle.refusal_rules.specs.Answers.{gives, sizeSays};
 ghost use Rattle.copy_rules.specs.Runs.{copied};
 ghost use Rattle.grid_rules.specs.Points.{GridOf};
-ghost use Rattle.span_rules.specs.Spans.{spanSays, handed};
+ghost use Rattle.span_rules.specs.Spans.{spanSays, lentBytes, thatPart};
 ghost use Rattle.grid_part_rules.specs.Grids.{headerSpan, byColumns, byRows, copyByColumns, copyByRows};
 
 // Where the header of a grid lies: start and length in bytes. Refused with 9 where the layout is stale, then with 7 where it is of another kind.
@@ -31,7 +31,7 @@ pub fn header_span(file: &[u8], layout: Layout) -> SpanAnswer
 
 // The header of a grid, handed back as that part of the file; empty where `header_span` refuses.
 pub fn header_bytes(file: &[u8], layout: Layout) -> &[u8]
-    ensures { λ r. ⌜ now r ≡ handed (now (file .entry)) (headerSpan (now (file .entry)) layout) ⌝ }
+    ensures { λ r. ⌜ lentBytes r ≡ thatPart (file .entry) (headerSpan (now (file .entry)) layout) ⌝ }
 {
     hand_back(file, header_span(file, layout))
 }

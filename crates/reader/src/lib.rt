@@ -11,7 +11,7 @@ use refusal_rules::SizeAnswer;
 use refusal_rules::WordAnswer;
 ghost use mathlib.Core.Path.{_≡_};
 ghost use Rattle.refusal_rules.specs.Answers.{numberSays, wordSays, sizeSays};
-ghost use Rattle.span_rules.specs.Spans.{handed};
+ghost use Rattle.span_rules.specs.Spans.{lentBytes, thatPart};
 ghost use Rattle.area_part_rules.specs.Blocks.{blockSpan};
 ghost use Rattle.area_part_rules.specs.Lines.{copyLine};
 ghost use Rattle.grid_part_rules.specs.Grids.{copyByRows};
@@ -56,7 +56,7 @@ pub fn field<'a>(r: Reader<'a>, row: u32, column: u32, position: u32) -> WordAns
 
 // A block of an AREA file, handed back as that part of the file; empty where `area_blocks::block_span` refuses.
 pub fn block<'a>(r: Reader<'a>, block: Block) -> &'a [u8]
-    ensures { λ s. ⌜ now s ≡ handed (now (r .entry .file)) (blockSpan (now (r .entry .file)) (r .entry .layout) block) ⌝ }
+    ensures { λ s. ⌜ lentBytes s ≡ thatPart (r .entry .file) (blockSpan (now (r .entry .file)) (r .entry .layout) block) ⌝ }
 {
     block_bytes(r.file, r.layout, block)
 }

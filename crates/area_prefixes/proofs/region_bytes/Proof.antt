@@ -2,7 +2,7 @@
 -- Assumes nothing.
 use mathlib.Core.Path.{sym, ap, subst, _∙_}
 use denote.Ref.{now}
-use Rattle.span_rules.specs.Spans.{handed, Inside}
+use Rattle.span_rules.specs.Spans.{thatPart, Inside}
 use Rattle.area_part_rules.proofs.Regions.{region-in-file}
 use borrow.Author.Needs.{needs}
 use Rattle.area_prefixes.proofs.region_bytes.Statement.{statement}
@@ -19,7 +19,7 @@ hand-back-requires c κs =
 returns : tie.Need-returns
 returns c =
     let a = c .before .before .before .args in
-    c .hand-back .ensures ∙ ap (handed (now (a .file))) (c .before .region-span .ensures)
+    c .hand-back .ensures ∙ ap (thatPart (a .file)) (c .before .region-span .ensures)
 
 pub region-bytes-spec : {M : Type 1} → statement M
 region-bytes-spec = tie.close (tie.spec region-span-requires hand-back-requires returns)

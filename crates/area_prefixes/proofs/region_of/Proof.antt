@@ -1,6 +1,6 @@
 -- `area_prefixes::region_of` meets its contract: the chain of checks is the table of rules, and its verdict picks the answer.
 -- Assumes nothing.
-use mathlib.Core.Path.{_≡_, sym, ap, _∙_}
+use mathlib.Core.Path.{_≡_, refl, sym, ap, _∙_}
 use Prim.Native.Nat.{_+_, _<_}
 use native.Mathlib.Omega.{arith}
 use Rattle.refusal_rules.specs.Answers.{gives, sizeSays}
@@ -11,7 +11,7 @@ use Rattle.area_rules.specs.Samples.{lineStart}
 use Rattle.area_rules.specs.Blocks.{regionOffset}
 use Rattle.area_rules.proofs.Regions.{region-prefix}
 use Rattle.area_rules.proofs.Samples.{line-inside}
-use Rattle.area_rules.proofs.Places.{line-begins}
+use Rattle.area_rules.proofs.Places.{line-start}
 use Rattle.span_rules.specs.Spans.{span}
 use Rattle.area_part_rules.specs.Regions.{regionRules, regionOf}
 use Rattle.area_part_rules.proofs.Regions.{region-hold}
@@ -64,7 +64,7 @@ found c =
     gives-same
     (ap sizeSays (sym (c .before .start .given .1))
     ∙ c .before .before .before .line-start .ensures
-    ∙ line-begins (s .args .l) (s .pre) (s .args .line) (omega (arith, line (c .before .before .before .before))))
+    ∙ line-start (s .args .l) (s .pre) (s .args .line) _ .1 (line (c .before .before .before .before), refl))
 
 add-t16 : tie.Need-add-t16
 add-t16 c =
@@ -89,7 +89,7 @@ returns-2 : tie.Need-returns-2
 returns-2 c =
     let s = c .before .before .before .before .before .before .before .before .before .before in
     gives-refuses
-    (sym (line-begins (s .args .l) (s .pre) (s .args .line) (omega (arith, line (c .before .before .before .before))))
+    (sym (line-start (s .args .l) (s .pre) (s .args .line) (lineStart (s .args .l) (s .args .line)) .1 (line (c .before .before .before .before), refl))
     ∙ sym (c .before .before .before .line-start .ensures)
     ∙ ap sizeSays (c .before .refusal2 .given .1))
 

@@ -1,8 +1,7 @@
 -- `grid_copies::header_bytes` meets its contract: a span that is given is inside the file.
 -- Assumes nothing.
 use mathlib.Core.Path.{ap, _∙_}
-use denote.Ref.{now}
-use Rattle.span_rules.specs.Spans.{handed}
+use Rattle.span_rules.specs.Spans.{thatPart}
 use Rattle.grid_part_rules.proofs.Grids.{header-span-inside}
 use borrow.Author.Needs.{needs}
 use Rattle.grid_copies.proofs.header_bytes.Statement.{statement}
@@ -15,7 +14,7 @@ hand-back-requires : tie.Need-hand-back-requires
 hand-back-requires c κs = rw (c .header-span .ensures) (header-span-inside _ _)
 
 returns : tie.Need-returns
-returns c = c .hand-back .ensures ∙ ap (handed (now (c .before .before .before .args .file))) (c .before .header-span .ensures)
+returns c = c .hand-back .ensures ∙ ap (thatPart (c .before .before .before .args .file)) (c .before .header-span .ensures)
 
 pub header-bytes-spec : {M : Type 1} → statement M
 header-bytes-spec = tie.close (tie.spec header-span-requires hand-back-requires returns)

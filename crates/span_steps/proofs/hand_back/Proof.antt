@@ -1,9 +1,10 @@
--- `span_steps::hand_back` meets its contract: a span that is given ends inside the file, so it has an end, and its bytes are a part of the file.
+-- `span_steps::hand_back` meets its contract: a span that is given ends inside the file, so it has an end, and the part is at its start and has its bytes.
 -- Assumes nothing.
-use mathlib.Core.Path.{_≡_, ap}
-use Prim.Native.Nat.{ℕ, _+_, _-_, _≤_}
+use mathlib.Core.Path.{_≡_}
+use mathlib.Core.List.{[]}
+use Prim.Native.Nat.{_+_, _-_, _≤_}
 use native.Mathlib.Omega.{arith}
-use denote.Ref.{now}
+use denote.Ref.{ptr, now}
 use lib.ListN.{length, take, drop}
 use borrow.Author.Needs.{needs}
 use Rattle.span_steps.proofs.hand_back.Statement.{statement}
@@ -42,13 +43,17 @@ part-result-end-2 c = search needs
 
 returns : tie.Need-returns
 returns c =
-    let a = c .before .before .before .before .before .args in
+    let f = c .before .before .before .before .before .args .file in
     let s = c .before .before .before .answer .given .0 .0 in
     let size : s .start + s .length - s .start ≡ s .length = omega arith in
-    rw (c .before .before .before .answer .given .1) (ap (λ (n : ℕ). take n (drop (s .start) (now (a .file)))) size)
+    let there : s .start + ptr f .1 ≡ ptr f .1 + s .start = omega arith in
+    rw (c .before .before .before .answer .given .1) (λ t. ((ptr f .0, there t), take (size t) (drop (s .start) (now f))))
 
 returns-2 : tie.Need-returns-2
-returns-2 c = search needs
+returns-2 c =
+    let f = c .before .before .before .args .file in
+    let there : 0 + ptr f .1 ≡ ptr f .1 = omega arith in
+    rw (c .before .enum-told .given .1) (λ t. ((ptr f .0, there t), []))
 
 pub hand-back-spec : {M : Type 1} → statement M
 hand-back-spec =
