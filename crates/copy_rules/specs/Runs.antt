@@ -25,7 +25,7 @@ abbrev pub linesAt : Order → List ℕ → ℕ → ℕ → ℕ → ℕ → ℕ 
 linesAt o f at across along count n = linesOf (λ k. wordsAt o f (at + k * across) along n) count
 
 -- What a call that copies answers, and the lent output that it leaves. It refuses as what it would copy is refused, and then with 10 where the output is
--- too short; "a refusal writes nothing". Otherwise it answers how many places it wrote: "a successful copy writes the first places of the output and no
+-- too short; "A refusal .. writes nothing". Otherwise it answers how many places it wrote: "a successful copy writes the first places of the output and no
 -- more".
 abbrev pub copied : {Value : Type 0} → Answer (List Value) → List Value → Answer ℕ × List Value
 copied (refuses n p) out = (refuses n p, out)

@@ -32,7 +32,7 @@ IsOf o number l = (l .order ≡ o) × (l .number ≡ number)
 
 -- ---- one layout, and a file before and after
 
--- With a layout, every call on the file g answers as on the file f.
+-- With a layout, opening and every call that reads a grid answer on the file g as on the file f; and a value lies where it lay, so that a store goes to the same place.
 pub record AsBefore (f g : List ℕ) (l : GridLayout) : Type 0 where
   -- opening with its order and number: so the layout is fresh where it was fresh, and stale where it was stale
   pub opening : reopened g (Grid l) ≡ reopened f (Grid l)
@@ -49,7 +49,7 @@ pub record AsBefore (f g : List ℕ) (l : GridLayout) : Type 0 where
   -- the whole grid by rows
   pub rows : (out : List ℤ) → copyByRows g (Grid l) out ≡ copyByRows f (Grid l) out
 
--- Every call refuses the layout with 9, and writes nothing.
+-- Every call that reads a grid refuses the layout with 9, and writes nothing; so does a store, which goes where the value lies.
 pub record IsRefused (g : List ℕ) (l : GridLayout) : Type 0 where
   -- where a named value lies
   pub place : (x : ValueName) → placeIn g (Grid l) x ≡ refuses 9 0

@@ -15,7 +15,7 @@ use Rattle.refusal_rules.specs.Rules.{judge, first, firstFault}
 use Rattle.refusal_rules.specs.Answers.{gives, refuses}
 use Rattle.refusal_rules.specs.Tests.{within}
 use Rattle.grid_rules.specs.Rules.{gridHeadRules, meets, shares, headerRules, sizeRules, ownRules, overlapRule, slotRules, slotsRules, gridFileRules, wantedRules}
-use Rattle.grid_rules.specs.Worked.{fileG, G}
+use Rattle.grid_rules.specs.Worked.{wordsG, fileG, G}
 use Rattle.extent_rules.specs.Stretches.{extent, slotExtent, highestEnd, noGridHas, stretchStarts, runFrom, stretchAt, freeStretches}
 use Rattle.extent_rules.specs.Rooms.{fitsAt, lowestAddress}
 use Rattle.extent_rules.specs.declared.Extent.{Extent}
@@ -63,7 +63,7 @@ pub worked-changes : WorkedChanges
 unfolding deleteGrid deleteRules withoutGrid addGrid addRules withGrid gridPut gridBytes lowestEmpty setWord nextFreeSet table emptied
     lowestAddress fitsAt freeStretches stretchAt runFrom stretchStarts noGridHas highestEnd slotExtent lowest linesOf
     gridFileRules gridHeadRules slotsRules slotRules ownRules headerRules sizeRules overlapRule meets shares wantedRules
-    firstFault first judge within atLeast wordAt numberAt decode value encode digits bytesOf given fileG G
+    firstFault first judge within atLeast wordAt numberAt decode value encode digits bytesOf given wordsG fileG G
 worked-changes =
     record {
       no-stretch = refl;

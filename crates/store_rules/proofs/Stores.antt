@@ -23,9 +23,11 @@ use Rattle.refusal_rules.specs.Answers.{Answer, gives, refuses, mapped}
 use Rattle.refusal_rules.specs.declared.Place.{Place}
 use Rattle.refusal_rules.proofs.Answers.{gives-refuses}
 use Rattle.store_theory.specs.Plans.{Plan, write, answer, outcome, SucceedsAt, Holds}
-use Rattle.store_theory.specs.Formats.{Writes, FormatLaws}
+use Rattle.store_theory.specs.Formats.{Writes, FormatLaws, system}
+use Rattle.store_theory.specs.Stores.{All, fileAfter}
 use Rattle.store_theory.proofs.Plans.{refuse-write}
-use Rattle.store_theory.proofs.Formats.{demand3-runs}
+use Rattle.store_theory.proofs.Claims.{plan-after}
+use Rattle.store_theory.proofs.Formats.{laws, demand3-runs}
 use Rattle.area_rules.specs.Opening.{openArea}
 use Rattle.area_rules.specs.declared.AreaLayout.{AreaLayout}
 use Rattle.area_rules.proofs.Facts.{area-of}
@@ -45,7 +47,7 @@ use Rattle.value_rules.specs.Places.{placeOf}
 use Rattle.value_rules.specs.declared.ValueName.{ValueName}
 use Rattle.value_rules.proofs.Places.{Located, sample-at, point-at, field-at, located, place-inside, base, wide, place-lattice}
 use Rattle.value_rules.specs.Reading.{placeIn, readSample, readWord}
-use Rattle.store_rules.specs.Stores.{unsigned, signed, Request, sample, point, field, Store, valueNameOf, requestNumber, bitsOf, InType, Done, putIn, whenFresh, readBack, storeFormat, planOf, storesIn, OrderDoesNotMatter}
+use Rattle.store_rules.specs.Stores.{unsigned, signed, Request, sample, point, field, Store, valueNameOf, requestNumber, bitsOf, InType, Done, putIn, whenFresh, readBack, Key, storeFormat, planOf, storesIn, OrderDoesNotMatter}
 use Rattle.store_rules.proofs.Puts.{Comes, none, large, there, comes, coming}
 use Rattle.value_rules.proofs.Reading.{word-width, place-exactly}
 
@@ -242,6 +244,13 @@ succeeds f s = (λ h. to (planOf f s) comes-of (h .0) (h .1), from (planOf f s) 
     from _ (none k q w) e = gives-refuses (sym e)
     from _ (large p w m) e = gives-refuses (sym e)
     from _ (there p w m) e = (p .address, refl)
+
+-- Whether a store succeeds, and at which address, is the same on the file as it came and on the file that stores of the same kind and byte order before it leave: so
+-- that no two of a list succeed at one place may be judged on the file as it came.
+pub plan-in-a-run : (kind : Kind) (order : Order) → let S = system storeFormat (record { kind = kind; order = order }) in
+    (f : List ℕ) (before : List Store) (s : Store) → All (S .Fit) before → S .Fit s → planOf (fileAfter S f before) s ≡ planOf f s
+plan-in-a-run kind order f before s ok fit =
+    let k : Key = record { kind = kind; order = order } in plan-after (system storeFormat k) (laws storeFormat store-laws k) f before s ok fit
 
 -- Demand 3: of any file, and any list of stores of single values with layouts of one kind and byte order, no two of which succeed at the same place.
 pub order-does-not-matter : OrderDoesNotMatter

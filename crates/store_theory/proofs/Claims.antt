@@ -81,6 +81,11 @@ module _ {Store Answer Opened Value : Type 0} (S : System Store Answer Opened Va
   pub length-after-all : (f : List ℕ) (l : List Store) → All (S .Fit) l → length (fileAfter S f l) ≡ length f
   length-after-all f l ok = ap length (planned f f l ok refl refl .bytes) ∙ length-carried (S .plan f) f l
 
+  -- a store that comes behind others does on the file that they leave what it would do alone on the file as it came: where one of the two succeeds, so does the other,
+  -- and at the same address
+  pub plan-after : (f : List ℕ) (before : List Store) (s : Store) → All (S .Fit) before → S .Fit s → S .plan (fileAfter S f before) s ≡ S .plan f s
+  plan-after f before s ok fit = L .by-opening (fileAfter S f before) f s fit (opening-after f before ok) (length-after-all f before ok)
+
   -- stores at one address in the same order leave the same bytes
   same-bytes : (f : List ℕ) (l m : List Store) → All (S .Fit) l → All (S .Fit) m → OrderOf l m
       → ((a : ℕ) → storesAt S f a l ≡ storesAt S f a m) → carried (S .plan f) f l ≡ carried (S .plan f) f m

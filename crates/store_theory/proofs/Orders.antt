@@ -76,7 +76,7 @@ module _ {X : Type 0} where
   only-member (List·Memᴰ·tail {xs = []} m) h = absurd (List·Memᴰ·not-nil m)
   only-member (List·Memᴰ·tail {xs = y ∷ l} m) h = let z : ⊥ = omega arith in absurd z
 
--- ---- "the same members, each as often"
+-- ---- the same members, each as often
 
 module _ {X : Type 0} where
   -- as many members of both lists pass any test

@@ -15,18 +15,19 @@ module _ {Store Answer Opened Value : Type 0} (S : System Store Answer Opened Va
     -- "All orders leave the same bytes": these
     pub bytes : List ℕ
     pub same : (o : List Store) → OrderOf l o → fileAfter S f o ≡ bytes
-    -- "in every order, each store gets the answer it would get alone on the file as it came"
+    -- "Then for every such list, in every order, each store gets the answer it would get alone on the file as it came."
     pub answered : (o : List Store) → OrderOf l o → answers S f o ≡ map (alone S f) o
     -- "each stored place reads back its number"
     pub stored : (s : Store) → List·Memᴰ s l → (a : ℕ) → SucceedsAt a (S .plan f s) → S .read bytes s ≡ S .number s
-    -- "every other byte is the old one", and the file has as many
+    -- "and every other byte is the old one", and the file has as many
     pub others : (i : ℕ) → All (λ s. ¬ Covers i (S .plan f s)) l → getD bytes i 0 ≡ getD f i 0
     pub size : length bytes ≡ length f
     -- "Opening the file as that kind (GRID and MD in that order) answers as before, whatever grid is asked for."
     pub opening : S .opening bytes ≡ S .opening f
 
-  -- Demand 3: "Take any file, accepted or not, one kind and one byte order, and any list of stores .., refused ones included. Each store has a layout of that
-  -- kind and order, stale or not, and no two that succeed name the same place."
+  -- Demand 3: "Take any file, accepted or not, one kind and one byte order, and any list of stores into its samples, grid points or MD fields, refused ones included.
+  -- Each store has a layout of that kind and order, stale or not, and no two that succeed name the same place." Kind, order and layouts are in `Fit`. Which of the
+  -- stores succeed, and where, is judged on the file as it came; that it is the same on the file that a store gets in its turn is the law `plan-after`.
   abbrev pub Demand3 : Type 0
   Demand3 = (f : List ℕ) (l : List Store) → All (S .Fit) l → Distinct S f l → OrderFree f l
 

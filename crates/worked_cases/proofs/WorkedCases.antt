@@ -14,7 +14,7 @@ use Rattle.area_rules.specs.Worked.{fileP, P, fileB, B, layoutP, layoutB}
 use Rattle.area_rules.proofs.Worked.{worked-area}
 use Rattle.area_rules.specs.declared.Block.the-variants.{Nav}
 use Rattle.area_rules.specs.Rules as area-rules
-use Rattle.grid_rules.specs.Worked.{fileG, G, layoutG}
+use Rattle.grid_rules.specs.Worked.{wordsG, fileG, G, layoutG}
 use Rattle.grid_rules.proofs.Worked.{worked-grid}
 use Rattle.grid_rules.specs.Rules as grid-rules
 use Rattle.grid_rules.specs.Opening as grid
@@ -41,7 +41,7 @@ unfolding area.openArea area.openAreaTold area-rules.areaRules area-rules.areaWo
     grid-rules.slotRules grid-rules.ownRules grid-rules.headerRules grid-rules.sizeRules grid-rules.overlapRule grid-rules.meets grid-rules.shares
     grid-rules.wantedRules md.openMd md.openMdWords md-rules.mdRules md-rules.mdCountRules md-rules.mdSumRules md-rules.mdFixedRules md-rules.mdEndRules firstFault first
     judge within atLeast listOf wordAt numberAt decode encode value digits given bytesOf nextStart areaBounded gridBounded mdBounded sampleRules
-    samplePlace pointRules pointPlace partRules fieldRules fieldPlace fieldsOf fieldWord placeOf blockRules blockOf fileP P fileB B layoutP layoutB fileG G layoutG fileM
+    samplePlace pointRules pointPlace partRules fieldRules fieldPlace fieldsOf fieldWord placeOf blockRules blockOf fileP P fileB B layoutP layoutB wordsG fileG G layoutG fileM
     layoutM
 worked-cases =
     let fresh-P = fresh-area P layoutP .1 (worked-area .P-opens) in
@@ -60,7 +60,8 @@ worked-cases =
       B-nav-in-data = refl;
       B-prefix = refl;
       G-point = found-fresh _ _ _ fresh-G ∙ refl;
-      G-overlap = refl;
+      G-past-the-end = refl;
+      G-overlap = worked-grid .overlap;
       G-empty = refl;
       M-data = found-fresh _ _ _ fresh-M ∙ refl;
       M-row = found-fresh _ _ _ fresh-M ∙ refl;

@@ -1,4 +1,4 @@
--- The cases that document 01, "Worked files", marks to be proved, all of them, each with its text. They are stated of what the contracts of the public calls
+-- The cases that document 01, "Worked files", marks to be proved, all of them, each with its text, and one more. They are stated of what the contracts of the public calls
 -- cite: opening (openArea, openGrid, openMd), the place of a named value (placeIn), the extent of a block (blockSpan).
 -- Assumes nothing.
 use mathlib.Core.Path.{_≡_}
@@ -8,7 +8,7 @@ use Rattle.refusal_rules.specs.Answers.{gives, refuses, place, wordPlace}
 use Rattle.area_rules.specs.Opening.{openArea}
 use Rattle.area_rules.specs.Worked.{P, fileB, B, layoutP, layoutB}
 use Rattle.area_rules.specs.declared.Block.the-variants.{Nav}
-use Rattle.grid_rules.specs.Worked.{fileG, G, layoutG}
+use Rattle.grid_rules.specs.Worked.{fileG, G, overlappingG, layoutG}
 use Rattle.grid_rules.specs.Opening.{openGrid}
 use Rattle.md_rules.specs.Opening.{openMd}
 use Rattle.md_rules.specs.Worked.{fileM, M, layoutM}
@@ -39,8 +39,10 @@ pub record WorkedCases : Type 0 where
   pub B-prefix : openArea (fileB 256 12) ≡ refuses 4 15
   -- "G point (2,3): word 83."
   pub G-point : placeIn G (Grid layoutG) (Point 2 3) ≡ gives (wordPlace 83)
-  -- "G's slot 2 set to 83: 5 at 12."
-  pub G-overlap : openGrid Big (fileG 83) 1 ≡ refuses 5 12
+  -- "G's slot 2 set to 83: 5 at 12." A header at word 83 would end past the next free word: the test of overlap is not reached.
+  pub G-past-the-end : openGrid Big (fileG 83) 1 ≡ refuses 5 12
+  -- G with a second grid that lies inside the first, and breaks no other rule: 5 at 12. Document 01 does not mark this one.
+  pub G-overlap : openGrid Big (overlappingG 19) 1 ≡ refuses 5 12
   -- "G, grid 2: refusal 6."
   pub G-empty : openGrid Big G 2 ≡ refuses 6 0
   -- "M field 3 of (2,3): word 4120."
