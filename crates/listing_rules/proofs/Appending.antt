@@ -22,9 +22,25 @@ unfolding appendBytes
 append-more t [] m = refl
 append-more t (b ∷ l) m = append-more (appendByte t b) l m
 
--- a piece more, behind a text that has the pieces before it
-pub append-piece : {s : Text} (t : Text) (a b : List ℕ) → s ≡ appendBytes t a → appendBytes s b ≡ appendBytes t (a ++ b)
+-- a piece behind a text that has the pieces before it
+append-piece : {s : Text} (t : Text) (a b : List ℕ) → s ≡ appendBytes t a → appendBytes s b ≡ appendBytes t (a ++ b)
 append-piece t a b e = ap (λ x. appendBytes x b) e ∙ sym (append-more t a b)
+
+-- three pieces, one after another
+pub append-three : (t : Text) (a b c : List ℕ) → appendBytes (appendBytes (appendBytes t a) b) c ≡ appendBytes t (a ++ b ++ c)
+append-three t a b c = append-piece t (a ++ b) c (append-piece t a b refl)
+
+-- four
+pub append-four : (t : Text) (a b c d : List ℕ) → appendBytes (appendBytes (appendBytes (appendBytes t a) b) c) d ≡ appendBytes t (a ++ b ++ c ++ d)
+append-four t a b c d = append-piece t (a ++ b ++ c) d (append-three t a b c)
+
+-- seven
+pub append-seven : (t : Text) (a b c d e f g : List ℕ)
+    → appendBytes (appendBytes (appendBytes (appendBytes (appendBytes (appendBytes (appendBytes t a) b) c) d) e) f) g
+    ≡ appendBytes t (a ++ b ++ c ++ d ++ e ++ f ++ g)
+append-seven t a b c d e f g =
+    append-piece t (a ++ b ++ c ++ d ++ e ++ f) g
+    (append-piece t (a ++ b ++ c ++ d ++ e) f (append-piece t (a ++ b ++ c ++ d) e (append-four t a b c d)))
 
 -- the byte at an index and those behind it are those from the index on
 pub append-next : (t : Text) (l : List ℕ) (i d : ℕ) → i < length l → appendBytes (appendByte t (getD l i d)) (drop (i + 1) l) ≡ appendBytes t (drop i l)
