@@ -84,23 +84,15 @@ fn append_layout(text: Text, layout: AreaLayout) -> Text
     ensures { λ r. ⌜ r ≡ appendBytes text (layoutLines layout) ⌝ }
 {
     let order = layout.order;
+    let lines = layout.lines as u64;
+    let elements = layout.elements as u64;
+    let bands = layout.bands as u64;
+    let width = layout.width as u64;
+    let prefix = layout.prefix as u64;
     let area = append_order(text, order);
-    let size = append_two(
-        area,
-        b"lines ",
-        layout.lines as u64,
-        b" elements ",
-        layout.elements as u64,
-    );
-    let samples = append_two(
-        size,
-        b" bands ",
-        layout.bands as u64,
-        b" bytes ",
-        layout.width as u64,
-    );
-    let prefix = append_number(samples, b" prefix ", layout.prefix as u64);
-    append_bytes(prefix, b"\n")
+    let size = append_two(area, b"lines ", lines, b" elements ", elements);
+    let samples = append_two(size, b" bands ", bands, b" bytes ", width);
+    append_bytes(append_number(samples, b" prefix ", prefix), b"\n")
 }
 
 // A text with the name of a block behind it.

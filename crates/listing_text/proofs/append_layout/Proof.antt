@@ -6,20 +6,29 @@ use borrow.Author.Needs.{needs}
 use Rattle.listing_text.proofs.append_layout.Statement.{statement}
 use Rattle.listing_text.proofs.append_layout.Tie as tie
 
+cast-lines : tie.Need-cast-lines
+cast-lines c = search needs
+
+cast-elements : tie.Need-cast-elements
+cast-elements c = search needs
+
+cast-bands : tie.Need-cast-bands
+cast-bands c = search needs
+
+cast-width : tie.Need-cast-width
+cast-width c = search needs
+
+cast-prefix : tie.Need-cast-prefix
+cast-prefix c = search needs
+
 append-order-requires : tie.Need-append-order-requires
 append-order-requires c κs = search needs
 
 slice-aggregate-append-two : tie.Need-slice-aggregate-append-two
 slice-aggregate-append-two c = search needs
 
-cast-append-two : tie.Need-cast-append-two
-cast-append-two c = search needs
-
 slice-aggregate-append-two-2 : tie.Need-slice-aggregate-append-two-2
 slice-aggregate-append-two-2 c = search needs
-
-cast-append-two-2 : tie.Need-cast-append-two-2
-cast-append-two-2 c = search needs
 
 append-two-requires : tie.Need-append-two-requires
 append-two-requires c κs = search needs
@@ -27,23 +36,14 @@ append-two-requires c κs = search needs
 slice-aggregate-append-two-3 : tie.Need-slice-aggregate-append-two-3
 slice-aggregate-append-two-3 c = search needs
 
-cast-append-two-3 : tie.Need-cast-append-two-3
-cast-append-two-3 c = search needs
-
 slice-aggregate-append-two-4 : tie.Need-slice-aggregate-append-two-4
 slice-aggregate-append-two-4 c = search needs
-
-cast-append-two-4 : tie.Need-cast-append-two-4
-cast-append-two-4 c = search needs
 
 append-two-requires-2 : tie.Need-append-two-requires-2
 append-two-requires-2 c κs = search needs
 
 slice-aggregate-append-number : tie.Need-slice-aggregate-append-number
 slice-aggregate-append-number c = search needs
-
-cast-append-number : tie.Need-cast-append-number
-cast-append-number c = search needs
 
 append-number-requires : tie.Need-append-number-requires
 append-number-requires c κs = search needs
@@ -57,26 +57,26 @@ append-bytes-requires c κs = search needs
 returns : tie.Need-returns
 unfolding layoutLines
 returns c =
-    rw (c .append-bytes .ensures, c .before .before .append-number .ensures, c .before .before .before .before .before .append-two2 .ensures, c .before .before .before .before .before .before .before .before .before .before .append-two .ensures, c .before .before .before .before .before .before .before .before .before .before .before .before .before .before .before .append-order .ensures)
+    rw (c .append-bytes .ensures, c .before .before .append-number .ensures, c .before .before .before .before .append-two2 .ensures, c .before .before .before .before .before .before .before .append-two .ensures, c .before .before .before .before .before .before .before .before .before .before .append-order .ensures)
     (append-seven _ _ _ _ _ _ _ _)
 
 pub append-layout-spec : {M : Type 1} → statement M
 append-layout-spec =
     tie.close
     (tie.spec
+    cast-lines
+    cast-elements
+    cast-bands
+    cast-width
+    cast-prefix
     append-order-requires
     slice-aggregate-append-two
-    cast-append-two
     slice-aggregate-append-two-2
-    cast-append-two-2
     append-two-requires
     slice-aggregate-append-two-3
-    cast-append-two-3
     slice-aggregate-append-two-4
-    cast-append-two-4
     append-two-requires-2
     slice-aggregate-append-number
-    cast-append-number
     append-number-requires
     slice-aggregate-append-bytes
     append-bytes-requires
