@@ -6,8 +6,8 @@ ghost use mathlib.Core.Path.{_≡_};
 ghost use lib.ListN.{length};
 ghost use Rattle.listing_rules.specs.Page.{listingText};
 
-// Writes the listing of an AREA file to standard output, and answers how many bytes it has handed to the write: all of the listing's. A write that fails is left at
-// that: the program has no exit status.
+// Writes the listing of an AREA file to standard output, and answers how many bytes it has handed to the write: all of the listing's. A write that fails is
+// left at that: the program has no exit status.
 pub fn print_listing(file: &[u8]) -> usize
     ensures { λ r. ⌜ r ≡ length (listingText (now (file .entry))) ⌝ }
 {

@@ -179,9 +179,9 @@ fn fill_text(text: Text, out: &mut [u8])
     }
 }
 
-// Writes the listing of an AREA file into the first places of a lent output, and answers how many bytes it has: the byte order, the numbers of the layout and the
-// blocks that are present by start; the line of the refusal where the file is refused; `TOO LONG` where it has more than 65,536 bytes. Refused with 10 where the
-// output is too short, and then nothing is written; 512 places are enough for every file.
+// Writes the listing of an AREA file into the first places of a lent output, and answers how many bytes it has: the byte order, the numbers of the layout and
+// the blocks that are present by start; the line of the refusal where the file is refused; `TOO LONG` where it has more than 65,536 bytes. Refused with 10
+// where the output is too short, and then nothing is written; 512 places are enough for every file.
 pub fn list_text(file: &[u8], out: &mut [u8]) -> SizeAnswer
     ensures { λ r. ⌜ (sizeSays r, now (out .exit)) ≡ copied (gives (listingText (now (file .entry)))) (now (out .entry)) ⌝ }
 {

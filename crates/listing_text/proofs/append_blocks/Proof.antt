@@ -3,13 +3,18 @@
 use mathlib.Core.Path.{_≡_, refl, _∙_}
 use Prim.Native.Nat.{_-_, _≤_}
 use native.Mathlib.Omega.{arith}
-use lib.ListN.{take, drop}
+use lib.ListN.{length, take, drop}
 use lib.Seq.{getD-take, length-take-le}
-use Rattle.listing_rules.specs.Steps.{appendBytes}
 use Rattle.listing_rules.specs.Page.{blockLines}
+use Rattle.listing_rules.specs.Steps.{appendBytes}
+use Rattle.listing_rules.specs.declared.BlockList.{BlockList}
 use Rattle.listing_rules.proofs.Appending.{append-block, append-no-block}
 use Rattle.listing_text.proofs.append_blocks.Statement.{statement}
 use Rattle.listing_text.proofs.append_blocks.Tie as tie
+
+-- there are as many blocks as the count says
+blocks-length : (b : BlockList) → (b .count ≤ 6) × (length (b .entries) ≡ 6) → length (take (b .count) (b .entries)) ≡ b .count
+blocks-length b h = length-take-le (b .count) (b .entries) (omega (arith, h))
 
 abbrev Inv-loop : tie.InvT-loop
 Inv-loop count entries t₀ i₀ t i =
@@ -41,19 +46,18 @@ loop-again c =
     let lp = c .before .before .before .loop in
     let s = c .before .before .before .before .before in
     let h = c .before .before .loop-test .taken in
-    let l = take (s .args .blocks .count) (s .args .blocks .entries) in (
+    let b = s .args .blocks in (
       omega arith,
-      rw (c .append-block .ensures, ← getD-take (s .args .blocks .count) (s .args .blocks .entries) (lp .i) _ h)
-          (append-block (lp .t) l (lp .i) _ (omega (arith, h, s .pre, length-take-le (s .args .blocks .count) (s .args .blocks .entries) (omega (arith, s .pre)))) ∙ lp .inv .1),
+      rw (c .append-block .ensures, ← getD-take (b .count) (b .entries) (lp .i) _ h)
+          (append-block (lp .t) (take (b .count) (b .entries)) (lp .i) _ (omega (arith, h, blocks-length b (s .pre))) ∙ lp .inv .1),
     )
 
 returns : tie.Need-returns Inv-loop μ-loop
 returns c =
     let lp = c .before .loop in
     let s = c .before .before .before in
-    append-no-block (lp .t) (take (s .args .blocks .count) (s .args .blocks .entries)) (lp .i)
-    (omega (arith, length-take-le (s .args .blocks .count) (s .args .blocks .entries) (omega (arith, s .pre))))
-    ∙ lp .inv .1
+    let b = s .args .blocks in
+    append-no-block (lp .t) (take (b .count) (b .entries)) (lp .i) (omega (arith, blocks-length b (s .pre))) ∙ lp .inv .1
 
 pub append-blocks-spec : {M : Type 1} → statement M
 append-blocks-spec =

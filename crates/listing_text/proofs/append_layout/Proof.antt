@@ -57,7 +57,11 @@ append-bytes-requires c κs = search needs
 returns : tie.Need-returns
 unfolding layoutLines
 returns c =
-    rw (c .append-bytes .ensures, c .before .before .append-number .ensures, c .before .before .before .before .append-two2 .ensures, c .before .before .before .before .before .before .before .append-two .ensures, c .before .before .before .before .before .before .before .before .before .before .append-order .ensures)
+    let number = c .before .before in
+    let second = number .before .before in
+    let first = second .before .before .before in
+    let order = first .before .before .before in
+    rw (c .append-bytes .ensures, number .append-number .ensures, second .append-two2 .ensures, first .append-two .ensures, order .append-order .ensures)
     (append-seven _ _ _ _ _ _ _ _)
 
 pub append-layout-spec : {M : Type 1} → statement M

@@ -1,15 +1,15 @@
 -- `listing_text::fill_text` meets its contract: after i turns the first i places hold the first i bytes of the text.
 -- Assumes nothing.
-use Rattle.listing_text.proofs.fill_text.Statement.{statement}
-use Rattle.listing_text.proofs.fill_text.Tie as tie
 use mathlib.Core.Path.{_≡_, refl, ap, _∙_}
 use mathlib.Core.List.{_++_}
 use Prim.Native.Nat.{_-_, _≤_}
 use native.Mathlib.Omega.{arith}
-use lib.ListN.{length, getD, set, drop, length-set}
 use denote.Ref.{now}
+use lib.ListN.{length, getD, set, drop, length-set}
 use Rattle.lists.specs.Lists.{listOf}
 use Rattle.lists.proofs.Filled.{filled-more, filled-all}
+use Rattle.listing_text.proofs.fill_text.Statement.{statement}
+use Rattle.listing_text.proofs.fill_text.Tie as tie
 
 abbrev Inv-loop : tie.InvT-loop
 Inv-loop out₀ bytes i₀ out i = (i ≤ length out₀) × ((length out ≡ length out₀) × (out ≡ listOf (λ k. getD bytes k 0) i ++ drop i out₀))

@@ -1,4 +1,4 @@
--- `listing_text::list_text` meets its contract: the text holds the listing, which 512 bytes have room for, and its bytes are copied where the output has a place for each.
+-- `listing_text::list_text` meets its contract: the text is the listing, and it is copied where the output has a place for each byte.
 -- Assumes nothing.
 use mathlib.Core.Path.{_≡_, sym, ap, _∙_}
 use mathlib.Core.List.{List}
@@ -11,8 +11,8 @@ use Rattle.lists.specs.Lists.{listOf}
 use Rattle.refusal_rules.specs.Answers.{gives}
 use Rattle.copy_rules.specs.Runs.{copied}
 use Rattle.copy_rules.proofs.Copies.{listed-over, listed-short}
-use Rattle.listing_rules.specs.Steps.{emptyText, appendBytes}
 use Rattle.listing_rules.specs.Page.{listingText}
+use Rattle.listing_rules.specs.Steps.{emptyText, appendBytes}
 use Rattle.listing_rules.specs.declared.Text.{Text}
 use Rattle.listing_rules.proofs.Appending.{TextIs, text-is, text-listOf}
 use Rattle.listing_rules.proofs.Page.{listing-most}
@@ -20,12 +20,14 @@ use borrow.Author.Needs.{needs}
 use Rattle.listing_text.proofs.list_text.Statement.{statement}
 use Rattle.listing_text.proofs.list_text.Tie as tie
 
--- a text of a file holds the listing
-held : (f : List ℕ) {t : Text} → t ≡ appendBytes emptyText (listingText f) → TextIs t (listingText f)
-held f e = rw e (text-is (listingText f) (omega (arith, listing-most f)))
+module _ (f : List ℕ) {t : Text} (e : t ≡ appendBytes emptyText (listingText f)) where
+  -- the bytes of the text are the listing
+  is-listing : TextIs t (listingText f)
+  is-listing = rw e (text-is (listingText f) (omega (arith, listing-most f)))
 
-the-bytes : (f : List ℕ) {t : Text} → t ≡ appendBytes emptyText (listingText f) → listOf (λ i. getD (t .bytes) i 0) (t .count) ≡ listingText f
-the-bytes f e = text-listOf (held f e) (omega (arith, listing-most f))
+  -- each by its index
+  listed-bytes : listOf (λ i. getD (t .bytes) i 0) (t .count) ≡ listingText f
+  listed-bytes = text-listOf is-listing (omega (arith, listing-most f))
 
 text-of-requires : tie.Need-text-of-requires
 text-of-requires c κs = search needs
@@ -35,7 +37,7 @@ returns c =
     let s = c .before .before .before .before in
     let t = c .before .text-of in
     listed-short (λ i. getD (t .result .bytes) i 0) (t .result .count) (now (s .args .out)) (c .if1 .taken)
-    ∙ ap (λ l. copied (gives l) (now (s .args .out))) (the-bytes (now (s .args .file)) (t .ensures))
+    ∙ ap (λ l. copied (gives l) (now (s .args .out))) (listed-bytes (now (s .args .file)) (t .ensures))
 
 slice-relend-prefix-fill-text : tie.Need-slice-relend-prefix-fill-text
 slice-relend-prefix-fill-text c = search needs
@@ -48,7 +50,7 @@ fill-text-requires c κs =
     let s = c .before .before .before .before .before in
     let t = c .before .before .text-of in
     let f = now (s .args .file) in
-    omega (arith, length-take (t .result .count) (now (s .args .out)), held f (t .ensures) .count, listing-most f)
+    omega (arith, length-take (t .result .count) (now (s .args .out)), is-listing f (t .ensures) .count, listing-most f)
 
 same-length : tie.Need-same-length
 same-length c = search needs
@@ -57,8 +59,10 @@ returns-2 : tie.Need-returns-2
 returns-2 c =
     let s = c .before .before .before .before .before .before .before .before in
     let t = c .before .before .before .before .before .text-of in
-    listed-over (λ i. getD (t .result .bytes) i 0) (t .result .count) (now (s .args .out)) _ (c .before .before .before .before .if1 .left) (c .before .before .fill-text .ensures)
-    ∙ ap (λ l. copied (gives l) (now (s .args .out))) (the-bytes (now (s .args .file)) (t .ensures))
+    listed-over (λ i. getD (t .result .bytes) i 0) (t .result .count) (now (s .args .out)) _
+    (c .before .before .before .before .if1 .left)
+    (c .before .before .fill-text .ensures)
+    ∙ ap (λ l. copied (gives l) (now (s .args .out))) (listed-bytes (now (s .args .file)) (t .ensures))
 
 pub list-text-spec : {M : Type 1} → statement M
 list-text-spec =

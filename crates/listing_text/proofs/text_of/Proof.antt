@@ -36,7 +36,9 @@ append-bytes-requires c κs = search needs
 
 returns : tie.Need-returns
 unfolding emptyText
-returns c = c .append-bytes .ensures ∙ ap (appendBytes emptyText) (sym (listing-too-long (now (c .before .before .before .before .args .file)) (c .before .before .if1 .taken)))
+returns c =
+    c .append-bytes .ensures
+    ∙ ap (appendBytes emptyText) (sym (listing-too-long (now (c .before .before .before .before .args .file)) (c .before .before .if1 .taken)))
 
 list-area-requires : tie.Need-list-area-requires
 list-area-requires c κs = search needs
@@ -48,7 +50,7 @@ append-layout-requires : tie.Need-append-layout-requires
 append-layout-requires c κs = search needs
 
 append-blocks-requires : tie.Need-append-blocks-requires
-append-blocks-requires c κs = listing-six (now (c .before .before .before .before .before .before .before .before .args .file)) (c .before .before .before .before .before .list-area .ensures)
+append-blocks-requires c κs = let a = c .before .before .before .before .before in listing-six (now (a .before .before .before .args .file)) (a .list-area .ensures)
 
 enum-known-opening-2 : tie.Need-enum-known-opening-2
 enum-known-opening-2 c = search needs
@@ -74,18 +76,21 @@ append-bytes-requires-2 c κs = search needs
 returns-2 : tie.Need-returns-2
 unfolding emptyText
 returns-2 c =
+    let a = c .before .before .before .before .before .before in
     rw (c .append-blocks .ensures, c .before .append-layout .ensures)
     (sym (append-more _ _ _)
     ∙ ap (appendBytes emptyText)
-    (opened (now (c .before .before .before .before .before .before .before .before .before .args .file)) (c .before .before .before .before .before .before .list-area .ensures) (c .before .before .before .before .before .before .before .if1 .left) (c .before .before .before .opening .given .1)))
+    (opened (now (a .before .before .before .args .file)) (a .list-area .ensures) (a .before .if1 .left) (c .before .before .before .opening .given .1)))
 
 returns-3 : tie.Need-returns-3
 unfolding emptyText refusalLine
 returns-3 c =
+    let o = c .before .before .before .before .before .before .before in
+    let a = o .before .before .before in
     rw (c .append-bytes2 .ensures, c .before .before .append-two .ensures)
     (append-three _ _ _ _
     ∙ ap (appendBytes emptyText)
-    (refused (now (c .before .before .before .before .before .before .before .before .before .before .before .before .before .args .file)) (c .before .before .before .before .before .before .before .before .before .before .list-area .ensures) (c .before .before .before .before .before .before .before .before .before .before .before .if1 .left) (c .before .before .before .before .before .before .before .opening2 .given .1)))
+    (refused (now (a .before .before .before .args .file)) (a .list-area .ensures) (a .before .if1 .left) (o .opening2 .given .1)))
 
 pub text-of-spec : {M : Type 1} → statement M
 text-of-spec =
