@@ -68,10 +68,10 @@ decimal-zero n e = rw e
 pub decimal-of : (n : ℕ) → n < 10 ^ 20 → DecimalOf n (decimal n)
 decimal-of n h =
     record {
-      readsAs = value-within 20 n h;
-      allDigits = digits-within 20 n;
-      noZeroInFront = λ p. front-within 20 n p h;
-      oneZero = decimal-zero n;
+      reads-as = value-within 20 n h;
+      all-digits = digits-within 20 n;
+      no-zero-in-front = λ p. front-within 20 n p h;
+      one-zero = decimal-zero n;
     }
 
 -- ---- how many there are

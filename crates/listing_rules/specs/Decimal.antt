@@ -38,7 +38,7 @@ DecimalDigits (b ∷ l) = ((48 ≤ b) × (b ≤ 57)) × DecimalDigits l
 
 -- bytes are the decimal text of a number: they are read as it, each is a digit, and there is no zero in front, but that 0 is one digit
 pub record DecimalOf (n : ℕ) (l : List ℕ) : Type 0 where
-  pub readsAs : decimalValue l ≡ n
-  pub allDigits : DecimalDigits l
-  pub noZeroInFront : 0 < n → 48 < getD l 0 48
-  pub oneZero : n ≡ 0 → l ≡ 48 ∷ []
+  pub reads-as : decimalValue l ≡ n
+  pub all-digits : DecimalDigits l
+  pub no-zero-in-front : 0 < n → 48 < getD l 0 48
+  pub one-zero : n ≡ 0 → l ≡ 48 ∷ []
