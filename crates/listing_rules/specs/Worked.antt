@@ -39,6 +39,7 @@ littleFile =
     ∷ []))
     ++ replicate 744 0
 
+-- the listings of the worked files B and P, of the file in little order, and of every file that is too long
 pub record WorkedListings : Type 0 where
   -- "For B, whole:"
   pub B-listing : listingText B
