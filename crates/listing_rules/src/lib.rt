@@ -1,4 +1,4 @@
-// What the listing of an AREA file says: its blocks that are present, by start. There is no code here: see specs/ and proofs/.
+// What the listing of an AREA file says: its blocks that are present, by start, and the text of it. There is no code here: see specs/ and proofs/.
 use area_rules::AreaOpening;
 use area_rules::Block;
 
@@ -19,4 +19,10 @@ pub struct BlockList {
 pub struct Listing {
     pub opening: AreaOpening,
     pub blocks: BlockList,
+}
+
+// A text that bytes are appended to: its first `count` bytes. There is room for 512, and no listing has more than 439.
+pub struct Text {
+    pub count: usize,
+    pub bytes: [u8; 512],
 }
