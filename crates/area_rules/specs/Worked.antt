@@ -13,8 +13,8 @@ use Rattle.area_rules.specs.Opening.{openArea}
 use Rattle.area_rules.specs.Samples.{sampleAddress}
 use Rattle.area_rules.specs.declared.AreaLayout.{AreaLayout}
 
--- word k, counted from 1, is n
-abbrev W : ℕ → ℕ → ℕ × ℕ
+-- word k, counted from 1, is n: how the worked files give their words
+abbrev pub W : ℕ → ℕ → ℕ × ℕ
 W k n = (k - 1, n)
 
 -- P, with so many bytes after its directory: big, W2 = 4, W9 = 2, W10 = 4, W11 = 1, W14 = 1, W34 = 256
