@@ -38,9 +38,10 @@ use denote.Triple.Walked.{says, needs, ends-at}
 use Rattle.endian_rules.specs.declared.Order.{Order}
 use Rattle.endian_rules.proofs.Order as O
 use Rattle.extent_rules.specs.declared.Extent.{Extent}
-use Rattle.extent_rules.specs.Rooms.{searched}
+use Rattle.extent_rules.specs.Rooms.{lesser, searched}
 use Rattle.extent_rules.specs.Steps.{GridAccepted, runsOver}
 use Rattle.extent_rules.proofs.Extent as X
+use Rattle.extent_rules.proofs.Fit.{lesser-count}
 use Rattle.walks.proofs.Calls.{Yields, yields, calls-into}
 use Rattle.walks.proofs.Contracts.{Contracted}
 use Rattle.walks.proofs.Held.{HasSlice, counts}
@@ -152,22 +153,26 @@ module _ (κs : Lfts 2) (a : Args self.signature κs) where
         owned ! O.the-row (Is O.the-row) (makes-order 𝓤 H A) order _ (are .1 .1 .0) $ fjoin ! $ move ! (1 ∷ 0 ∷ []) $ fjoin ! $ done !)
         (λ ν δ. tt) (λ ν δ. factI 𝓤 _ (emp 𝓤) asked) (λ r zs. zs ≡ runsOver order (now file) n (now table)) (λ ν δ r e. id⊢ 𝓤 _)
 
-    fitted : Triple 𝓤 (C #fit) (Fitting 𝓤 H A mem run) → (zs : List Extent) → length zs ≡ length (now table)
+    -- what `first_fit` says of the extent e that it finds in zs
+    abbrev FoundIn : List Extent → Extent → Type 0
+    FoundIn zs e = e ≡ searched zs need (lesser n (length zs))
+
+    fitted : Triple 𝓤 (C #fit) (Fitting 𝓤 H A mem run) → (zs : List Extent)
         → ent 𝓤 (sem 𝓤 H A (Table zs)) (H .⇛ (C #fit (tv ∷ vint w64 n ∷ vint w64 need ∷ [])
-        (Yields 𝓤 H X.the-row (λ e. guard 𝓤 (e ≡ searched zs need n) (sem 𝓤 H A (Table zs))))))
-    fitted known zs len = lends-shr X.the-row (named 0) (κs .0) (qs .0) table tv 𝓤 H A W C fm zs (number w64 ∷ number w64 ∷ []) X.the-row
+        (Yields 𝓤 H X.the-row (λ e. guard 𝓤 (FoundIn zs e) (sem 𝓤 H A (Table zs))))))
+    fitted known zs = lends-shr X.the-row (named 0) (κs .0) (qs .0) table tv 𝓤 H A W C fm zs (number w64 ∷ number w64 ∷ []) X.the-row
         (fit.clauses 𝓤 H A mem run) (λ _. (n, (need, tt))) #fit known (vint w64 n ∷ vint w64 need ∷ []) (λ _. refl) (λ _. are .1 .1 .1)
-        (λ μ ε. tt) (λ μ ε. factI 𝓤 _ (emp 𝓤) (subst (λ (m : ℕ). n ≤ m) (sym len) (asked .0))) (λ e. e ≡ searched zs need n) (λ μ ε e z. id⊢ 𝓤 _)
+        (λ μ ε. tt) (λ μ ε. id⊢ 𝓤 _) (FoundIn zs) (λ μ ε e z. id⊢ 𝓤 _)
 
     -- at the end: the extent e that is found, and the table zs
-    exits : (e : Extent) (u : Val) (zs : List Extent) → Is X.the-row e (u ∷ []) → zs ≡ runsOver order (now file) n (now table) → e ≡ searched zs need n
+    exits : (e : Extent) (u : Val) (zs : List Extent) → Is X.the-row e (u ∷ []) → zs ≡ runsOver order (now file) n (now table) → FoundIn zs e
         → ent 𝓤 (⋆ 𝓤 H A (‵ (Table zs) ∷ Token ∷ [])) (Post (extent-value e))
     exits e u zs ie eq found =
         qed W (‵ (Table zs) ∷ Token ∷ []) ∵ counts X.the-row (named 0) (κs .0) (qs .0) table tv ! zs (are .0) (λ len.
         -- [what the table owns; its token; the file's token]
         suffices ! _ (ends-at 𝓤 H A self.ended (stays params) (self.clauses 𝓤 H A mem run) W ((κs, qs, tt, a, vals), tt) (extent-value e) e
         (zs, (tt, (tt, (tt, (tt, tt))))) (len, (tt, (tt, (tt, (tt, tt)))))) $
-        says ! (ap (λ (x : Extent). (x, zs)) found ∙ ap (λ (l : List Extent). (searched l need n, l)) eq) $
+        says ! (ap (λ (x : Extent). (x, zs)) (found ∙ ap (searched zs need) (lesser-count n (length zs) (subst (λ (m : ℕ). n ≤ m) (sym len) (asked .0)))) ∙ ap (λ (l : List Extent). (searched l need n, l)) eq) $
         move ! (1 ∷ 2 ∷ []) $ join ! $ frame ! $ nothing ! $ nothing ! $ fjoin ! $ nothing ! $ fjoin ! $ nothing ! $ fjoin ! $ nothing ! $ fjoin ! $
         move ! (1 ∷ 0 ∷ []) $ fjoin ! $ frame ! $ owned ! X.the-row (Is X.the-row) (makes 𝓤 H A) e _ (extent-told e u ie) $ done !)
 
@@ -179,9 +184,9 @@ module _ (κs : Lfts 2) (a : Args self.signature κs) where
         -- [the table; the file's token; what the file owns]
         use3 W (later (raw (C #fill _ _))) (filled known-fill) $ await ! tt $ at-once ! $ yields ! fm Nothing (λ _. Fits 𝓤 H C Post) (λ _ _ _.
         use1 W (some (λ (zs : List Extent). given (zs ≡ runsOver order (now file) n (now table)) (‵ (Table zs) ⊛ Token))) (id⊢ 𝓤 _) $
-        pick ! (λ zs. learn ! (λ eq. split ! $ counts X.the-row (named 0) (κs .0) (qs .0) table tv ! zs (are .0) (λ len. fjoin ! $
-        use1 W (later (raw (C #fit _ _))) (fitted known-fit zs len) $ await ! tt $ at-once ! $ yields ! fm X.the-row (λ e. Post (extent-value e)) (λ e u ie.
-        use1 W (given (e ≡ searched zs need n) (‵ (Table zs))) (id⊢ 𝓤 _) $ learn ! (λ found. at-once ! $ by ! (exits e u zs ie eq found)))))))
+        pick ! (λ zs. learn ! (λ eq. split ! $
+        use1 W (later (raw (C #fit _ _))) (fitted known-fit zs) $ await ! tt $ at-once ! $ yields ! fm X.the-row (λ e. Post (extent-value e)) (λ e u ie.
+        use1 W (given (FoundIn zs e) (‵ (Table zs))) (id⊢ 𝓤 _) $ learn ! (λ found. at-once ! $ by ! (exits e u zs ie eq found))))))
 
 pub search-spec : {M : Type 1} → statement M
 unfolding code.routine tablesOf
