@@ -18,7 +18,7 @@ use endian_rules::Order;
 use endian_steps::read_word;
 use endian_steps::write_number;
 use grid_updates_by_value::Addition;
-use grid_updates_by_value::Deletion;
+use grid_updates_by_value::StretchTable;
 use grid_updates_by_value::add_with_table;
 use grid_updates_by_value::delete_with_table;
 use layout_rules::Layout;
@@ -45,17 +45,17 @@ pub fn store_value(file: &mut [u8], layout: Layout, call: u32, n: Numbers) {
     }
 }
 
-// Writes what deleting a grid answers: how many free stretches there are, and each of them.
-fn say_deletion(deletion: Deletion) {
-    let answer = deletion.answer;
-    let table = deletion.table;
+// Writes what telling the free stretches or deleting a grid answers: how many free stretches there are, and each of them.
+fn say_stretches(stretches: StretchTable) {
+    let answer = stretches.answer;
+    let table = stretches.table;
     say_size(answer);
     say_table(table);
 }
 
 // Deletes the grid of a number: `delete NUMBER`.
 pub fn delete_grid(file: &mut [u8], order: Order, number: u32) {
-    say_deletion(delete_with_table(file, order, number));
+    say_stretches(delete_with_table(file, order, number));
 }
 
 // Writes what adding a grid answers: its number and address, how many free stretches there are, and each of them.
