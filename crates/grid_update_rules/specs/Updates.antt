@@ -1,5 +1,5 @@
 -- Deleting and adding a grid: document 02, request 5, in the order of its sentences; what several of them use stands first. "Both calls take file and byte order, no
--- layout." Free words, the longest runs of them and the lowest address are defined in extent_rules.
+-- layout." Free words, the longest runs of them and the lowest address are defined in extent_rules. A third call tells the free stretches, and changes no file.
 -- Assumes nothing.
 use mathlib.Core.List.{List, [], _∷_, _++_, map}
 use Prim.Native.Nat.{ℕ, _+_, _*_, _/_}
@@ -96,10 +96,6 @@ stretchesOf o f = freeStretches (wordAt o f) (length f / 4)
 abbrev pub tableRule : (ℕ → ℕ) → ℕ → Rule
 tableRule w size = rule (leb (w 10 + 1) size) 10 0
 
--- all rules of telling the free stretches in a table of `size` pairs: 1 to 5 on the file, and then that of the table
-unfoldable pub stretchRules : Order → List ℕ → ℕ → List Rule
-stretchRules o f size = gridFileRules (length f) (wordAt o f) ++ tableRule (wordAt o f) size ∷ []
-
 -- the rules of deleting the grid of a number that follow those of the file: "10 for a table of fewer than n+1 pairs; then delete 7, 6", for a table of `size`
 -- pairs
 abbrev pub deleteOwn : (ℕ → ℕ) → ℕ → ℕ → List Rule
@@ -127,7 +123,7 @@ addOwn o f headers rows columns values size =
 unfoldable pub addRules : Order → List ℕ → ℕ → ℕ → ℕ → ℕ → ℕ → List Rule
 addRules o f headers rows columns values size = gridFileRules (length f) (wordAt o f) ++ addOwn o f headers rows columns values size
 
--- ---- the calls
+-- ---- the two calls
 
 -- What a call answers of the free stretches of a file, and the table that it leaves, by the verdict of its rules: the value, made of their number, and the free
 -- stretches in the first places of the table t, with "places past them stay"; or the refusal, and the table as it was.
@@ -144,10 +140,6 @@ fileLeft (Fault r) f g = f
 abbrev pub changed : {Value : Type 0} → Verdict → (ℕ → Value) → Order → List ℕ → List ℕ → List Extent → Answer Value × (List ℕ × List Extent)
 changed v value o f g t = (listed v value o g t .0, (fileLeft v f g, listed v value o g t .1))
 
--- what telling the free stretches answers, which is their number, and the table that it leaves, in whose first places they stand
-unfoldable pub tellStretches : Order → List ℕ → List Extent → Answer ℕ × List Extent
-tellStretches o f t = listed (firstFault (stretchRules o f (length t))) (λ count. count) o f t
-
 -- what deleting the grid of a number answers, which is the number of free stretches, and the file and the table that it leaves
 unfoldable pub deleteGrid : Order → List ℕ → ℕ → List Extent → Answer ℕ × (List ℕ × List Extent)
 deleteGrid o f number t = changed (firstFault (deleteRules o f number (length t))) (λ count. count) o f (withoutGrid o f number) t
@@ -156,3 +148,13 @@ deleteGrid o f number t = changed (firstFault (deleteRules o f number (length t)
 unfoldable pub addGrid : Order → List ℕ → List ℕ → ℕ → ℕ → List ℤ → List Extent → Answer Added × (List ℕ × List Extent)
 addGrid o f header rows columns values t =
     changed (firstFault (addRules o f (length header) rows columns (length values) (length t))) (added o f rows columns) o f (withGrid o f header rows columns values) t
+
+-- ---- telling the free stretches
+
+-- all rules of telling the free stretches in a table of `size` pairs: 1 to 5 on the file, and then "10 for a table of fewer than n+1 pairs"
+unfoldable pub stretchRules : Order → List ℕ → ℕ → List Rule
+stretchRules o f size = gridFileRules (length f) (wordAt o f) ++ tableRule (wordAt o f) size ∷ []
+
+-- what telling the free stretches of a file that stays as it is answers, which is their number, and the table that it leaves, in whose first places they stand
+unfoldable pub tellStretches : Order → List ℕ → List Extent → Answer ℕ × List Extent
+tellStretches o f t = listed (firstFault (stretchRules o f (length t))) (λ count. count) o f t

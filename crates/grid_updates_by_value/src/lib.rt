@@ -13,7 +13,7 @@ ghost use Rattle.grid_update_rules.specs.Updates.{tellStretches, deleteGrid, ad
 // How many places a table has that a call makes: one more than the most grids that a file may have, so that it is long enough for every file.
 pub const PLACES: usize = 1025;
 
-// How many places a short table has, which is given by value: it is long enough for a file of at most three grids.
+// How many places a short table has, which is given by value: it is long enough for a file of at most three slots.
 pub const SHORT_PLACES: usize = 4;
 
 // What telling the free stretches or deleting a grid answers, and the table: the free stretches of the file stand in its first places, as many as the answer says,
