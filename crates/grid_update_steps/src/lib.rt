@@ -1,4 +1,4 @@
-// Deleting and adding a grid, and counting the free stretches, as far as the file goes. What a table of free stretches asks is answered beside: how many of its places are to be filled.
+// Deleting and adding a grid, as far as the file goes. What a table of free stretches asks is answered beside: how many of its places are to be filled.
 use endian_rules::Order;
 use endian_steps::read_word;
 use endian_steps::write_number;
@@ -40,7 +40,7 @@ ghost use Rattle.refusal_rules.specs.Rules.{firstFault};
 ghost use Rattle.extent_rules.specs.Stretches.{firstWord, highestEnd};
 ghost use Rattle.extent_rules.specs.Steps.{SlotsInside, GridAccepted};
 ghost use Rattle.grid_update_rules.specs.Updates.{nextFreeSet, deleteRules, lowestEmpty, addRules, gridBytes};
-ghost use Rattle.grid_update_rules.specs.Steps.{stretchSays, tellStep, deleteStep, refusedPlan, addPlan, additionSays, addStep, Ready};
+ghost use Rattle.grid_update_rules.specs.Steps.{stretchSays, deleteStep, refusedPlan, addPlan, additionSays, addStep, Ready};
 
 // Sets the next free word to the end of the highest grid, or to 12 + n where there is none. The directory must be inside the file, and each grid, and the end must
 // be a signed word.
@@ -90,35 +90,6 @@ pub fn delete_in(file: &mut [u8], order: Order, number: u32, size: usize) -> Str
             StretchStep {
                 answer: SizeAnswer::Value(count),
                 count: count,
-            }
-        }
-    }
-}
-
-// Counts the free stretches of a file, for a table of `size` pairs. Refused as `grid_updates::free_stretches`.
-pub fn count_stretches(file: &[u8], order: Order, size: usize) -> StretchStep
-    ensures { λ r. ⌜ stretchSays r ≡ tellStep order (now (file .entry)) size ⌝ }
-{
-    match file_verdict(file, order) {
-        Verdict::Fault(refusal) => StretchStep {
-            answer: SizeAnswer::Refused(refusal),
-            count: 0,
-        },
-        Verdict::Pass => {
-            let n = read_word(order, file, 10) as usize;
-            match check(Verdict::Pass, n + 1 <= size, SHORT_OUTPUT, 0) {
-                Verdict::Fault(refusal) => StretchStep {
-                    answer: SizeAnswer::Refused(refusal),
-                    count: 0,
-                },
-                Verdict::Pass => {
-                    let stretches = survey_free(file, order);
-                    let count = stretches.count;
-                    StretchStep {
-                        answer: SizeAnswer::Value(count),
-                        count: count,
-                    }
-                }
             }
         }
     }

@@ -1,4 +1,4 @@
--- What a walk wants of what `grid_update_steps` answers to a call that deletes a grid or tells the free stretches: `grid_update_rules::StretchStep`.
+-- What a walk wants of what is answered to a call that deletes a grid or tells the free stretches: `grid_update_rules::StretchStep`.
 --     step-value, answer-value     the machine values of a step, and of its answer
 --     step-tells                   the first can only be that
 --     step-parts                   the relations of a step's parts, from the step's own

@@ -1,4 +1,4 @@
--- `grid_updates::free_stretches` meets its contract: it calls `grid_update_steps::count_stretches`, to which it passes on the file, and then `extent_table_steps::fill`, to
+-- `grid_updates::free_stretches` meets its contract: it calls `count_stretches`, to which it passes on the file, and then `extent_table_steps::fill`, to
 -- which it lends the table as `&mut`, and passes on the file. First the code, which makes these calls; then what comes of the calls, with what the function holds.
 -- Assumes nothing.
 use mathlib.Core.Path.{_≡_, refl, ap, _∙_}
@@ -54,10 +54,10 @@ use Rattle.grid_update_rules.specs.declared.StretchStep.{StretchStep}
 use Rattle.grid_update_rules.proofs.Calls.{tell-may-fill, tell-done}
 use Rattle.grid_update_rules.proofs.StretchStep as D
 use Rattle.grid_update_rules.proofs.StretchStep.Laws as D′
-use Rattle.grid_update_steps.proofs.count_stretches as counts-in
-use Rattle.grid_update_steps.proofs.count_stretches.Met as counts-met
-use Rattle.grid_update_steps.proofs.count_stretches.Symbol as counts-def
-use Rattle.grid_update_steps.proofs.count_stretches.Symbol.{name as #counts}
+use Rattle.grid_updates.proofs.count_stretches as counts-in
+use Rattle.grid_updates.proofs.count_stretches.Met as counts-met
+use Rattle.grid_updates.proofs.count_stretches.Symbol as counts-def
+use Rattle.grid_updates.proofs.count_stretches.Symbol.{name as #counts}
 use Rattle.walks.proofs.Calls.{Yields, yields, calls-into, call-yields}
 use Rattle.walks.proofs.Contracts.{Contracted}
 use Rattle.walks.proofs.Held.{HasSlice, counts}
@@ -201,6 +201,6 @@ free-stretches-spec 𝓤 H 𝓜 𝓖 𝓡 =
     let fm = fmOf 𝓤 H (ofModel 𝓤 H 𝓜) (tablesOf 𝓤 H 𝓜 (tables 𝓤 H 𝓜 𝓡 code.env)) in
     proved params (plain (λ _. S.the-row)) 𝓤 H 𝓜 𝓖 𝓡 code.env (self.clauses 𝓤 H A (𝓜 .mem) (𝓡 .run)) key.name code.function (code.unfolded 𝓤 H 𝓜 𝓡)
     (λ κs qs a g are. via 𝓤 _ (fst∗ 𝓤 _ (emp 𝓤)) (via 𝓤 _ (runs-through κs a 𝓤 H A W (𝓜 .mem) (𝓡 .run) qs are C fm
-    (cited 𝓤 H (Counting 𝓤 H A (𝓜 .mem) (𝓡 .run)) 𝓜 𝓡 code.env #counts counts-def.routine code.calls-grid-update-steps·count-stretches (counts-met.met 𝓤 H 𝓜 𝓖 𝓡))
+    (cited 𝓤 H (Counting 𝓤 H A (𝓜 .mem) (𝓡 .run)) 𝓜 𝓡 code.env #counts counts-def.routine code.calls-grid-updates·count-stretches (counts-met.met 𝓤 H 𝓜 𝓖 𝓡))
     (cited 𝓤 H (Filling 𝓤 H A (𝓜 .mem) (𝓡 .run)) 𝓜 𝓡 code.env #fill fill-def.routine code.calls-extent-table-steps·fill (fill-met.met 𝓤 H 𝓜 𝓖 𝓡)))
     (walk κs a 𝓤 H A W C (tables 𝓤 H 𝓜 𝓡 code.env .Λ) fm are _)))

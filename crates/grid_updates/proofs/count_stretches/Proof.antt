@@ -1,4 +1,4 @@
--- `grid_update_steps::count_stretches` meets its contract: the checks of the file come first, then that of the table, and then the free stretches are counted.
+-- `grid_updates::count_stretches` meets its contract: the checks of the file come first, then that of the table, and then the free stretches are counted.
 -- Assumes nothing.
 use mathlib.Core.Path.{_≡_, sym, _∙_}
 use native.Mathlib.Omega.{arith}
@@ -10,8 +10,8 @@ use Rattle.extent_rules.proofs.Slots.{accepted-slots}
 use Rattle.grid_update_rules.specs.Updates.{stretchRules}
 use Rattle.grid_update_rules.specs.Steps.{tellStep}
 use Rattle.grid_update_rules.proofs.Verdicts.{stretch-file, stretch-table, counted-pass, counted-fault}
-use Rattle.grid_update_steps.proofs.count_stretches.Statement.{statement}
-use Rattle.grid_update_steps.proofs.count_stretches.Tie as tie
+use Rattle.grid_updates.proofs.count_stretches.Statement.{statement}
+use Rattle.grid_updates.proofs.count_stretches.Tie as tie
 
 file-verdict-requires : tie.Need-file-verdict-requires
 file-verdict-requires c κs = search needs
