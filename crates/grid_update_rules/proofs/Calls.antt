@@ -1,6 +1,7 @@
 -- What the functions under the calls leave to the calls: the places of the table that are to be filled are there, the file from which they are filled is
 -- accepted, what is found in the table makes the plan of an addition ready, and once all is filled, answer, file and table are what the definition of the
--- call gives. After a call that succeeds, telling the free stretches gives the number that it answered, and the table that it left.
+-- call gives. After a call that succeeds, telling the free stretches gives the number that it answered, and the table that it left,
+-- once and again.
 -- Assumes nothing.
 use mathlib.Core.Path.{_≡_, refl, sym, ap, subst, _∙_}
 use mathlib.Core.List.{List}
@@ -11,7 +12,7 @@ use lib.IntN.{ℤ}
 use lib.ListN.{length}
 use Rattle.lists.specs.Lists.{listOf, over}
 use Rattle.lists.proofs.Built.{length-listOf, getD-listOf}
-use Rattle.lists.proofs.Filled.{over-front, over-again}
+use Rattle.lists.proofs.Filled.{length-over, over-front, over-again}
 use Rattle.endian_rules.specs.Words.{wordAt}
 use Rattle.endian_rules.specs.declared.Order.{Order}
 use Rattle.refusal_rules.specs.Rules.{firstFault}
@@ -295,3 +296,21 @@ unfolding addGrid
 add-tells o f header rows columns values t a e =
     changed-tells (firstFault (addRules o f (length header) rows columns (length values) (length t))) (added o f rows columns) (λ (x : Added). x .stretches) (λ n. refl)
     o f (withGrid o f header rows columns values) t a (add-changed o f header rows columns values (length t)) e
+
+-- telling the free stretches of a file once more, in the table that was left, gives the same again
+pub tell-again : (o : Order) (f : List ℕ) (t : List Extent) → tellStretches o f (tellStretches o f t .1) ≡ tellStretches o f t
+unfolding tellStretches
+tell-again o f t = step (firstFault (stretchRules o f (length t))) refl
+  where
+    left : Verdict → List Extent
+    left v = listed v (λ count. count) o f t .1
+
+    step : (v : Verdict) → firstFault (stretchRules o f (length t)) ≡ v
+        → listed (firstFault (stretchRules o f (length (left v)))) (λ count. count) o f (left v) ≡ listed v (λ count. count) o f t
+    step Pass e =
+        let l : List Extent = stretchesOf o f in
+        let room : length l ≤ length t = table-room o f (length t) (tell-passes o f (length t) .0 e .1) in
+        ap (λ (n : ℕ). listed (firstFault (stretchRules o f n)) (λ count. count) o f (over l t)) (length-over l t room)
+        ∙ ap (λ (v : Verdict). listed v (λ count. count) o f (over l t)) e
+        ∙ ap (λ (u : List Extent). (gives (length l), u)) (over-again l l t (omega arith))
+    step (Fault r) e = ap (λ (v : Verdict). listed v (λ count. count) o f t) e

@@ -152,10 +152,10 @@ module _ (κs : Lfts 2) (a : Args self.signature κs) where
     abbrev to-counts : Counting 𝓤 H A mem runs .Ghost
     to-counts = (((κs .0, tt), (qs .0, tt), tt, (file, (order, (size, tt))), (fv ∷ [], (order-value order ∷ [], (vint w64 size ∷ [], tt)))), tt)
 
-    counted : Triple 𝓤 (C #counts) (Counting 𝓤 H A mem runs) → ent 𝓤 (⋆ 𝓤 H A (‵ File ∷ Token ∷ []))
+    stretches-counted : Triple 𝓤 (C #counts) (Counting 𝓤 H A mem runs) → ent 𝓤 (⋆ 𝓤 H A (‵ File ∷ Token ∷ []))
         (C #counts (fv ∷ order-value order ∷ vint w64 size ∷ [])
         (Yields 𝓤 H D.the-row (λ d. guard 𝓤 (Said d) (sep 𝓤 (toks 𝓤 A 1 (κs .0, tt) (qs .0, tt)) (sem 𝓤 H A File)))))
-    counted known =
+    stretches-counted known =
         qed W (‵ File ∷ Token ∷ []) ∵ use1 W (‵ File ⊛ ‵ File) (shr-slice-copy 𝓤 H A W (named 0) (κs .0) u8 .twice file (fv ∷ [])) $ split ! $ move ! (0 ∷ 2 ∷ []) $
         suffices ! _ (call-yields 𝓤 H A W C fm counts-in.ended (counts-in.clauses 𝓤 H A mem runs) to-counts Said (λ r e. id⊢ 𝓤 _) (sem 𝓤 H A File) #counts known
         (id⊢ 𝓤 _)) $
@@ -183,7 +183,7 @@ module _ (κs : Lfts 2) (a : Args self.signature κs) where
         -- [what the table owns; true; what the file owns; the table's token; true; the file's token]
         move ! (0 ∷ 3 ∷ []) $ fjoin ! $ move ! (4 ∷ 1 ∷ []) $ join ! $ keep ! (2 ∷ 0 ∷ 1 ∷ []) $
         -- [what the file owns; its token; the table]
-        use2 W (raw (C #counts _ _)) (counted known-counts) $ at-once ! $ yields ! fm D.the-row (Fills 𝓤 H C Post) (λ d w is.
+        use2 W (raw (C #counts _ _)) (stretches-counted known-counts) $ at-once ! $ yields ! fm D.the-row (Fills 𝓤 H C Post) (λ d w is.
         use1 W (given (Said d) (Token ⊛ ‵ File)) (id⊢ 𝓤 _) $ learn ! (λ eq. split ! $ move ! (2 ∷ 0 ∷ 1 ∷ []) $
         -- [the table; the file's token; what the file owns]
         use3 W (later (raw (C #fill _ _))) (fills-from (named 1) (κs .1 .0) (κs .0) (qs .1 .0) (qs .0) table file tv 𝓤 H A W C fm (now table) mem runs order
