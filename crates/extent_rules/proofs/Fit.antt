@@ -8,7 +8,7 @@ use Prim.Native.Nat.{ℕ, zero, suc, _+_, _-_, _/_, _≤_, _<_}
 use native.Mathlib.Nat.{eq-or-lt-of-le, le-of-suc-le-suc}
 use native.Mathlib.Decide.{decLt}
 use native.Mathlib.Omega.{arith}
-use borrow.Author.Tests.{lt-ltb, ltb-true}
+use borrow.Author.Tests.{le-leb, lt-leb, lt-ltb, ltb-true}
 use lib.Dec.{ltb}
 use lib.ListN.{length, getD}
 use Rattle.endian_rules.specs.Words.{wordAt}
@@ -20,7 +20,7 @@ use Rattle.refusal_rules.specs.Tests.{Exactly}
 use Rattle.refusal_rules.proofs.Exactness.{le-exactly, both-exactly}
 use Rattle.grid_rules.proofs.Slots.{Misses}
 use Rattle.extent_rules.specs.Stretches.{noWords, extentEnd, noGridHas, isFree, firstWord, freeStretches}
-use Rattle.extent_rules.specs.Rooms.{lastEnd, fitsAt, lowestAddress, hasRoom, fitsIn, firstFitting, searched}
+use Rattle.extent_rules.specs.Rooms.{lastEnd, fitsAt, lowestAddress, hasRoom, fitsIn, lesser, firstFitting, searched}
 use Rattle.extent_rules.specs.Steps.{GridAccepted, nthRun}
 use Rattle.extent_rules.specs.declared.Extent.{Extent}
 use Rattle.extent_rules.proofs.Free.{fails, own-exactly, none-has-exactly, free-word, words-free}
@@ -190,6 +190,24 @@ module _ (o : Order) (f : List ℕ) (a : GridAccepted o f) (need : ℕ) (some : 
       step (no h) = absurd (false≢true (sym (fits-none (λ i l. let z : ⊥ = omega (arith, h, l) in absurd z)) ∙ room))
 
 -- ---- the search
+
+-- so many places are searched where the table has them
+pub lesser-count : (count size : ℕ) → count ≤ size → lesser count size ≡ count
+unfolding lesser
+lesser-count count size l = rw (le-leb count size l)
+
+-- and all of them where it has fewer
+pub lesser-size : (count size : ℕ) → size < count → lesser count size ≡ size
+unfolding lesser
+lesser-size count size l = rw (lt-leb count size l)
+
+-- so none past the table's end
+pub lesser-within : (count size : ℕ) → lesser count size ≤ size
+lesser-within count size = step (decLt size count)
+  where
+    step : Dec (size < count) → lesser count size ≤ size
+    step (yes l) = omega (arith, lesser-size count size l)
+    step (no h) = omega (arith, h, lesser-count count size (omega (arith, h)))
 
 -- What a search of the extents r 0, r 1 and so on, i of them, has found: nothing, where the words fit into none of them, or else the first into which
 -- they do.

@@ -29,6 +29,10 @@ hasRoom w whole need = ltb (lowestAddress w whole need) whole
 
 -- ---- first fit
 
+-- how many places a search of the first `count` places of a table looks at: so many, or all `size` of them where the table has fewer
+unfoldable pub lesser : ℕ → ℕ → ℕ
+lesser count size = pick (leb count size) count size
+
 -- whether so many words fit into an extent, and end by 2,147,483,647
 abbrev pub fitsIn : ℕ → Extent → Bool
 fitsIn need e = both (leb need (e .length)) (leb (e .start + need) lastEnd)

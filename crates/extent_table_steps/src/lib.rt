@@ -10,7 +10,7 @@ ghost use mathlib.Core.Path.{_≡_};
 ghost use Prim.Native.Nat.{_≤_, _<_};
 ghost use lib.ListN.{length};
 ghost use Rattle.extent_rules.specs.Steps.{GridAccepted, runsOver, searchedOver};
-ghost use Rattle.extent_rules.specs.Rooms.{searched};
+ghost use Rattle.extent_rules.specs.Rooms.{searched, lesser};
 
 // Fills the first places of a table with the first free stretches of a file, in address order; places past them stay. The caller must make sure that the table
 // has so many places, and that the file is accepted unless there are none to fill.
@@ -27,18 +27,28 @@ pub fn fill<'t, 'f>(table: &'t mut [Extent], file: &'f [u8], order: Order, count
     }
 }
 
-// The first of a table's first `count` extents into which `need` words fit so that they end by 2,147,483,647; no words where there is none. The caller must make
-// sure that the table has so many places.
-pub fn first_fit(table: &[Extent], count: usize, need: usize) -> Extent
-    requires { ⌜ count ≤ length (now table) ⌝ }
-    ensures { λ r. ⌜ r ≡ searched (now (table .entry)) need count ⌝ }
+// So many places, or as many as a table of `size` places has where that is less.
+fn lesser(count: usize, size: usize) -> usize
+    ensures { λ r. ⌜ r ≡ lesser count size ⌝ }
 {
+    if count <= size {
+        return count;
+    }
+    size
+}
+
+// The first of a table's first `count` extents into which `need` words fit so that they end by 2,147,483,647; no words where there is none. All are searched where
+// the table has fewer.
+pub fn first_fit(table: &[Extent], count: usize, need: usize) -> Extent
+    ensures { λ r. ⌜ r ≡ searched (now (table .entry)) need (lesser count (length (now (table .entry)))) ⌝ }
+{
+    let places = lesser(count, table.len());
     let mut found = Extent {
         start: 0,
         length: 0,
     };
     let mut i: usize = 0;
-    while i < count {
+    while i < places {
         found = first_fitting(need, found, table[i]);
         i = i + 1;
     }

@@ -1,6 +1,7 @@
--- What the functions under the two calls leave to the calls: the places of the table that are to be filled are there, the file from which they are filled is
+-- What the functions under the calls leave to the calls: the places of the table that are to be filled are there, the file from which they are filled is
 -- accepted, what is found in the table makes the plan of an addition ready, and once all is filled, answer, file and table are what the definition of the
--- call gives.
+-- call gives. After a call that succeeds, telling the free stretches gives the number that it answered, and the table that it left,
+-- once and again.
 -- Assumes nothing.
 use mathlib.Core.Path.{_≡_, refl, sym, ap, subst, _∙_}
 use mathlib.Core.List.{List}
@@ -11,13 +12,14 @@ use lib.IntN.{ℤ}
 use lib.ListN.{length}
 use Rattle.lists.specs.Lists.{listOf, over}
 use Rattle.lists.proofs.Built.{length-listOf, getD-listOf}
-use Rattle.lists.proofs.Filled.{over-front, over-again}
+use Rattle.lists.proofs.Filled.{length-over, over-front, over-again}
 use Rattle.endian_rules.specs.Words.{wordAt}
 use Rattle.endian_rules.specs.declared.Order.{Order}
 use Rattle.refusal_rules.specs.Rules.{firstFault}
 use Rattle.refusal_rules.specs.Answers.{Answer, gives, refuses, sizeSays}
 use Rattle.refusal_rules.specs.declared.Verdict.{Verdict}
 use Rattle.refusal_rules.specs.declared.Verdict.the-variants.{Pass, Fault}
+use Rattle.refusal_rules.proofs.Answers.{gives-same, gives-refuses}
 use Rattle.refusal_rules.proofs.Tables.{fault-pass}
 use Rattle.extent_rules.specs.Stretches.{noWords}
 use Rattle.extent_rules.specs.Rooms.{firstFitting, searched}
@@ -25,11 +27,13 @@ use Rattle.extent_rules.specs.Steps.{GridAccepted, nthRun, runsOver}
 use Rattle.extent_rules.specs.declared.Extent.{Extent}
 use Rattle.extent_rules.proofs.Runs.{stretches-listed, stretches-few, stretches-more}
 use Rattle.extent_rules.proofs.Fit.{searched-room}
-use Rattle.grid_update_rules.specs.Updates.{addSays, stretchesOf, changed, deleteRules, withoutGrid, deleteGrid, gridWords, addressFor, addRules, withGrid, added, addGrid}
+use Rattle.grid_update_rules.specs.Updates.{addSays, stretchesOf, listed, fileLeft, changed, stretchRules, tellStretches, deleteRules, withoutGrid, deleteGrid, gridWords, addressFor, addRules, withGrid, added, addGrid}
 use Rattle.grid_update_rules.proofs.Deleted.{delete-passes, deleted-accepted, deleted-count}
 use Rattle.grid_update_rules.proofs.Addition.{AddAsked, AddPasses, add-passes, added-length, added-accepted, added-count, added-starts}
-use Rattle.grid_update_rules.specs.Steps.{deletionSays, additionSays, stepped, deleteStep, planned, addPlan, addStep, Ready}
-use Rattle.grid_update_rules.specs.declared.DeletionStep.{DeletionStep}
+use Rattle.grid_update_rules.proofs.Exact.{tell-passes}
+use Rattle.grid_update_rules.specs.Steps.{stretchSays, additionSays, counted, stepped, tellStep, deleteStep, planned, addPlan, addStep, Ready}
+use Rattle.grid_update_rules.specs.declared.Added.{Added}
+use Rattle.grid_update_rules.specs.declared.StretchStep.{StretchStep}
 use Rattle.grid_update_rules.specs.declared.AddPlan.{AddPlan}
 use Rattle.grid_update_rules.specs.declared.AdditionStep.{AdditionStep}
 
@@ -54,12 +58,12 @@ none-fillable o g size = (omega arith, λ some. let z : ⊥ = omega (arith, some
 table-room : (o : Order) (g : List ℕ) (size : ℕ) → wordAt o g 10 + 1 ≤ size → length (stretchesOf o g) ≤ size
 table-room o g size l = omega (arith, l, stretches-few (wordAt o g) (length g / 4))
 
--- ---- either call
+-- ---- each call
 
 -- what is known of the file g into which a call changes f, with a table of `size` pairs
 record Changed (o : Order) (f g : List ℕ) (size : ℕ) : Type 0 where
   accepted : GridAccepted o g
-  room : length (stretchesOf o g) ≤ size
+  table : wordAt o g 10 + 1 ≤ size
 
 -- What a call wants of what the function under it says and leaves, s: the places that are to be filled can be filled; once they are, answer, file and table
 -- are what the definition of the call gives.
@@ -73,14 +77,45 @@ carried : {Value : Type 0} (v : Verdict) (value : ℕ → Value) (o : Order) (f 
 carried Pass value o f g size h =
     let c : Changed o f g size = h refl in
     record {
-      may-fill = (c .room, λ some. c .accepted);
+      may-fill = (table-room o g size (c .table), λ some. c .accepted);
       done = λ t. ap (λ (l : List Extent). (gives (value (length (stretchesOf o g))), (g, over l t))) (sym (stretches-listed o g (c .accepted)));
     }
 carried (Fault r) value o f g size h =
+    let left : List ℕ = fileLeft (Fault r) f g in
     record {
-      may-fill = none-fillable o f size;
-      done = λ t. ap (λ (u : List Extent). (refuses (r .number) (r .place), (f, u))) (runs-none o f t);
+      may-fill = none-fillable o left size;
+      done = λ t. ap (λ (u : List Extent). (refuses (r .number) (r .place), (left, u))) (runs-none o left t);
     }
+
+-- ---- telling the free stretches
+
+-- the file, which stays as it was, where the rules pass
+tell-changed : (o : Order) (f : List ℕ) (size : ℕ) → firstFault (stretchRules o f size) ≡ Pass → Changed o f f size
+tell-changed o f size ok = let x = tell-passes o f size .0 ok in record { accepted = x .0; table = x .1 }
+
+-- a file that is changed into itself is left as it was
+file-same : (v : Verdict) (f : List ℕ) → fileLeft v f f ≡ f
+file-same Pass f = refl
+file-same (Fault r) f = refl
+
+module _ (o : Order) (f : List ℕ) (t : List Extent) (d : StretchStep) (e : stretchSays d ≡ tellStep o f (length t)) where
+  -- what was said is what the call wants
+  tells : Carried (firstFault (stretchRules o f (length t))) (λ count. count) o f f (length t) (stretchSays d, f)
+  unfolding tellStep
+  tells =
+      let v : Verdict = firstFault (stretchRules o f (length t)) in
+      subst (Carried v (λ count. count) o f f (length t))
+      (ap (λ (g : List ℕ). (counted v (λ count. count) o f, g)) (file-same v f) ∙ ap (λ (s : Answer ℕ × ℕ). (s, f)) (sym e))
+      (carried v (λ count. count) o f f (length t) (tell-changed o f (length t)))
+
+  -- the places that are to be filled are in the table, and the file is accepted if there are any
+  pub tell-may-fill : (d .count ≤ length t) × (0 < d .count → GridAccepted o f)
+  tell-may-fill = tells .may-fill
+
+  -- once they are filled, answer and table are those of the call
+  pub tell-done : (sizeSays (d .answer), runsOver o f (d .count) t) ≡ tellStretches o f t
+  unfolding tellStretches
+  tell-done = ap (λ (x : Answer ℕ × (List ℕ × List Extent)). (x .0, x .1 .1)) (tells .done t)
 
 -- ---- deleting
 
@@ -89,14 +124,12 @@ delete-changed : (o : Order) (f : List ℕ) (number size : ℕ) → firstFault (
 delete-changed o f number size ok =
     record {
       accepted = deleted-accepted o f number size ok;
-      room =
-          table-room o (withoutGrid o f number) size
-          (omega (arith, deleted-count o f number size ok, delete-passes o f number size .0 ok .table));
+      table = omega (arith, deleted-count o f number size ok, delete-passes o f number size .0 ok .table);
     }
 
-module _ (o : Order) (f : List ℕ) (number : ℕ) (t : List Extent) (d : DeletionStep) (g : List ℕ) (e : (deletionSays d, g) ≡ deleteStep o f number (length t)) where
+module _ (o : Order) (f : List ℕ) (number : ℕ) (t : List Extent) (d : StretchStep) (g : List ℕ) (e : (stretchSays d, g) ≡ deleteStep o f number (length t)) where
   -- what was said and left is what the call wants
-  deletes : Carried (firstFault (deleteRules o f number (length t))) (λ count. count) o f (withoutGrid o f number) (length t) (deletionSays d, g)
+  deletes : Carried (firstFault (deleteRules o f number (length t))) (λ count. count) o f (withoutGrid o f number) (length t) (stretchSays d, g)
   unfolding deleteStep
   deletes =
       let v : Verdict = firstFault (deleteRules o f number (length t)) in
@@ -183,9 +216,7 @@ module _ (o : Order) (f header : List ℕ) (rows columns : ℕ) (values : List �
       let x : AddPasses o f (length header) rows columns (length values) size = add-passes o f (length header) rows columns (length values) size .0 ok in
       record {
         accepted = added-accepted o f header rows columns values size ok;
-        room =
-            table-room o (withGrid o f header rows columns values) size
-            (omega (arith, added-count o f header rows columns values size ok, x .asked .table));
+        table = omega (arith, added-count o f header rows columns values size ok, x .asked .table);
       }
 
   -- at most one free stretch is gone
@@ -204,7 +235,8 @@ changed-again Pass value o f g rows columns t h =
     ap (λ (u : List Extent). (gives (value (length (stretchesOf o g))), (g, u)))
     (over-again (stretchesOf o g) (runs o f (length (stretchesOf o f) - 1)) t
     (omega (arith, h refl, length-listOf (λ i. nthRun o f (suc i)) (length (stretchesOf o f) - 1))))
-changed-again (Fault r) value o f g rows columns t h = ap (λ (u : List Extent). (refuses (r .number) (r .place), (f, u))) (runs-none o f t)
+changed-again (Fault r) value o f g rows columns t h =
+    ap (λ (u : List Extent). (refuses (r .number) (r .place), (fileLeft (Fault r) f g, u))) (runs-none o f t)
 
 module _ (o : Order) (f header : List ℕ) (rows columns : ℕ) (values : List ℤ) (t : List Extent) where
   module _ (a : AdditionStep) (g : List ℕ) (e : (additionSays a, g) ≡ addStep o f header rows columns values (length t)) where
@@ -233,3 +265,52 @@ module _ (o : Order) (f header : List ℕ) (rows columns : ℕ) (values : List �
       adds a g e .done (runsOver o f (p .count) t)
       ∙ ap (λ (q : AddPlan). changed v (added o f rows columns) o f h (runsOver o f (q .count) t)) is
       ∙ changed-again v (added o f rows columns) o f h rows columns t (add-fewer o f header rows columns values (length t))
+
+-- ---- after a call
+
+-- A call that gives x, of which `stretches` tells the number of free stretches, has left a file and a table: telling the free stretches of that file gives that
+-- number, and that table.
+changed-tells : {Value : Type 0} (v : Verdict) (value : ℕ → Value) (stretches : Value → ℕ) → ((n : ℕ) → stretches (value n) ≡ n)
+    → (o : Order) (f g : List ℕ) (t : List Extent) (x : Value) → (v ≡ Pass → Changed o f g (length t)) → changed v value o f g t .0 ≡ gives x
+    → tellStretches o (changed v value o f g t .1 .0) t ≡ (gives (stretches x), changed v value o f g t .1 .1)
+unfolding tellStretches
+changed-tells Pass value stretches back o f g t x h e =
+    let c : Changed o f g (length t) = h refl in
+    ap (λ (v : Verdict). listed v (λ count. count) o g t) (tell-passes o g (length t) .1 (c .accepted, c .table))
+    ∙ ap (λ (n : ℕ). (gives n, over (stretchesOf o g) t)) (sym (back (length (stretchesOf o g))) ∙ ap stretches (gives-same e))
+changed-tells (Fault r) value stretches back o f g t x h e = gives-refuses (sym e)
+
+-- of deleting
+pub delete-tells : (o : Order) (f : List ℕ) (number : ℕ) (t : List Extent) (count : ℕ) → deleteGrid o f number t .0 ≡ gives count
+    → tellStretches o (deleteGrid o f number t .1 .0) t ≡ (gives count, deleteGrid o f number t .1 .1)
+unfolding deleteGrid
+delete-tells o f number t count e =
+    changed-tells (firstFault (deleteRules o f number (length t))) (λ n. n) (λ n. n) (λ n. refl) o f (withoutGrid o f number) t count
+    (delete-changed o f number (length t)) e
+
+-- of adding
+pub add-tells : (o : Order) (f header : List ℕ) (rows columns : ℕ) (values : List ℤ) (t : List Extent) (a : Added)
+    → addGrid o f header rows columns values t .0 ≡ gives a
+    → tellStretches o (addGrid o f header rows columns values t .1 .0) t ≡ (gives (a .stretches), addGrid o f header rows columns values t .1 .1)
+unfolding addGrid
+add-tells o f header rows columns values t a e =
+    changed-tells (firstFault (addRules o f (length header) rows columns (length values) (length t))) (added o f rows columns) (λ (x : Added). x .stretches) (λ n. refl)
+    o f (withGrid o f header rows columns values) t a (add-changed o f header rows columns values (length t)) e
+
+-- telling the free stretches of a file once more, in the table that was left, gives the same again
+pub tell-again : (o : Order) (f : List ℕ) (t : List Extent) → tellStretches o f (tellStretches o f t .1) ≡ tellStretches o f t
+unfolding tellStretches
+tell-again o f t = step (firstFault (stretchRules o f (length t))) refl
+  where
+    left : Verdict → List Extent
+    left v = listed v (λ count. count) o f t .1
+
+    step : (v : Verdict) → firstFault (stretchRules o f (length t)) ≡ v
+        → listed (firstFault (stretchRules o f (length (left v)))) (λ count. count) o f (left v) ≡ listed v (λ count. count) o f t
+    step Pass e =
+        let l : List Extent = stretchesOf o f in
+        let room : length l ≤ length t = table-room o f (length t) (tell-passes o f (length t) .0 e .1) in
+        ap (λ (n : ℕ). listed (firstFault (stretchRules o f n)) (λ count. count) o f (over l t)) (length-over l t room)
+        ∙ ap (λ (v : Verdict). listed v (λ count. count) o f (over l t)) e
+        ∙ ap (λ (u : List Extent). (gives (length l), u)) (over-again l l t (omega arith))
+    step (Fault r) e = ap (λ (v : Verdict). listed v (λ count. count) o f t) e

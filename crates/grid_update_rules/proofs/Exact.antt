@@ -1,4 +1,4 @@
--- When deleting and adding refuse: the order of the rules, "13 exactly if there's no empty slot, 14 exactly if no such address exists", and that a grid that was
+-- When telling the free stretches, deleting and adding refuse: the order of the rules, "13 exactly if there's no empty slot, 14 exactly if no such address exists", and that a grid that was
 -- deleted leaves room for one of its rows and columns.
 -- Assumes nothing.
 use mathlib.Core.Path.{_≡_, refl, sym, ap, subst, _∙_}
@@ -21,8 +21,8 @@ use Rattle.refusal_rules.specs.declared.Refusal.{Refusal}
 use Rattle.refusal_rules.specs.declared.Verdict.{Verdict}
 use Rattle.refusal_rules.specs.declared.Verdict.the-variants.{Pass, Fault}
 use Rattle.refusal_rules.proofs.Answers.{gives-same, gives-refuses, refuses-same, never-refused}
-use Rattle.refusal_rules.proofs.Exactness.{within-exactly}
-use Rattle.refusal_rules.proofs.Tables.{fault-pass, joined, pass-joined, every-both}
+use Rattle.refusal_rules.proofs.Exactness.{le-exactly, within-exactly}
+use Rattle.refusal_rules.proofs.Tables.{fault-pass, pass-hold, hold-pass, joined, pass-joined, joined-pass, every-both}
 use Rattle.grid_rules.specs.Rules.{nextFree, emptySlot, isEmptySlot, gridEnd, gridHeadRules, headerRules, sizeRules, ownRules, overlapRule, slotRules, slotsRules, gridFileRules, wantedRules}
 use Rattle.grid_rules.specs.Accepts.{FullSlot, AcceptsGridFile}
 use Rattle.grid_rules.proofs.Slots.{number-slot, Misses}
@@ -32,7 +32,7 @@ use Rattle.extent_rules.specs.declared.Extent.{Extent}
 use Rattle.extent_rules.specs.Steps.{GridAccepted}
 use Rattle.extent_rules.proofs.Free.{accepted-file, fails, own-exactly}
 use Rattle.extent_rules.proofs.Fit.{Fits, lowest-address, room-exactly}
-use Rattle.grid_update_rules.specs.Updates.{stretchesOf, tableRule, changed, deleteRules, withoutGrid, deleteGrid, gridWords, lowestEmpty, addressFor, addOwn, addRules, withGrid, added, addGrid}
+use Rattle.grid_update_rules.specs.Updates.{stretchesOf, tableRule, changed, stretchRules, tellStretches, deleteRules, withoutGrid, deleteGrid, gridWords, lowestEmpty, addressFor, addOwn, addRules, withGrid, added, addGrid}
 use Rattle.grid_update_rules.specs.declared.Added.{Added}
 use Rattle.grid_update_rules.proofs.Deleted.{Deletes, delete-passes, deleted-length, deleted-accepted, deleted-words, deleted-count, deleted-slot, deleted-behind}
 use Rattle.grid_update_rules.proofs.Addition.{AddAsked, AddPasses, add-passes, slot-empty}
@@ -45,7 +45,13 @@ unfolding tabled
 tabled-append [] ss = refl
 tabled-append (r ∷ rs) ss = ap (λ (l : List (ℕ × ℕ)). (r .number, r .place) ∷ l) (tabled-append rs ss)
 
--- Document 02's order, numbers and places, of deleting: the file's rules; the table; the number; an empty slot.
+-- Document 02's order, numbers and places, of telling the free stretches: the file's rules; the table.
+pub tell-order : (o : Order) (f : List ℕ) (size : ℕ)
+    → tabled (stretchRules o f size) ≡ tabled (gridFileRules (length f) (wordAt o f)) ++ (10, 0) ∷ []
+unfolding stretchRules tabled
+tell-order o f size = tabled-append (gridFileRules (length f) (wordAt o f)) _
+
+-- Of deleting: the file's rules; the table; the number; an empty slot.
 pub delete-order : (o : Order) (f : List ℕ) (number size : ℕ)
     → tabled (deleteRules o f number size) ≡ tabled (gridFileRules (length f) (wordAt o f)) ++ (10, 0) ∷ (7, 0) ∷ (6, 0) ∷ []
 unfolding deleteRules wantedRules tabled
@@ -83,9 +89,9 @@ slot-lowest w j l e =
     found true q = ltb-true (lowestEmpty w) (w 10) q
     found false q = absurd (no-slot-exactly w .0 q j l e)
 
--- ---- what adding refuses
+-- ---- what a call refuses
 
--- what either call refuses is the fault of its rules
+-- what a call refuses is the fault of its rules
 changed-fault : {Value : Type 0} (v : Verdict) (value : ℕ → Value) (o : Order) (f g : List ℕ) (t : List Extent) (r : Refusal)
     → (changed v value o f g t .0 ≡ refuses (r .number) (r .place)) ↔ (v ≡ Fault r)
 changed-fault Pass value o f g t r = (λ e. gives-refuses e, λ e. fault-pass r (sym e))
@@ -156,7 +162,27 @@ table-exactly o f size rest other = (λ e. step (firstFault file) refl (leb (wor
     back : GridAccepted o f × (size < wordAt o f 10 + 1) → firstFault (file ++ own) ≡ Fault (refusal 10)
     back h = sym (pass-joined file own (h .0)) ∙ rw (lt-leb (wordAt o f 10 + 1) size (h .1))
 
--- "10 for a table of fewer than n+1 pairs", of deleting
+-- "10 for a table of fewer than n+1 pairs", of telling the free stretches
+pub tell-refuses-10 : (o : Order) (f : List ℕ) (t : List Extent)
+    → (tellStretches o f t .0 ≡ refuses 10 0) ↔ (GridAccepted o f × (length t < wordAt o f 10 + 1))
+unfolding tellStretches stretchRules
+tell-refuses-10 o f t =
+    let x = changed-fault (firstFault (stretchRules o f (length t))) (λ count. count) o f f t (refusal 10) in
+    let y = table-exactly o f (length t) [] tt in
+    (λ e. y .0 (x .0 e), λ h. x .1 (y .1 h))
+
+-- its rules pass exactly where the file is accepted and the table has n + 1 pairs
+pub tell-passes : (o : Order) (f : List ℕ) (size : ℕ) → (firstFault (stretchRules o f size) ≡ Pass) ↔ (GridAccepted o f × (wordAt o f 10 + 1 ≤ size))
+unfolding stretchRules
+tell-passes o f size =
+    let file : List Rule = gridFileRules (length f) (wordAt o f) in
+    let rest : List Rule = tableRule (wordAt o f) size ∷ [] in
+    let table = le-exactly (wordAt o f 10 + 1) size in (
+      λ e. let p = joined-pass file rest e in (p .0, table .sound (pass-hold rest (p .1) .0)),
+      λ h. sym (pass-joined file rest (h .0)) ∙ hold-pass rest (table .complete (h .1), tt),
+    )
+
+-- of deleting
 pub delete-refuses-10 : (o : Order) (f : List ℕ) (number : ℕ) (t : List Extent)
     → (deleteGrid o f number t .0 ≡ refuses 10 0) ↔ (GridAccepted o f × (length t < wordAt o f 10 + 1))
 unfolding deleteGrid deleteRules wantedRules
@@ -257,7 +283,7 @@ module _ (o : Order) (f header : List ℕ) (rows columns : ℕ) (values : List �
 
 -- ---- what adding answers
 
--- what either call gives is the value of the number of free stretches, and its rules have passed
+-- what a call gives is the value of the number of free stretches, and its rules have passed
 changed-gives : {Value : Type 0} (v : Verdict) (value : ℕ → Value) (o : Order) (f g : List ℕ) (t : List Extent) (x : Value)
     → changed v value o f g t .0 ≡ gives x → (v ≡ Pass) × (value (length (stretchesOf o g)) ≡ x)
 changed-gives Pass value o f g t x e = (refl, gives-same e)

@@ -1,6 +1,6 @@
--- The rules of deleting and adding a grid, as the functions apply them: those of the file first.
+-- The rules of telling the free stretches, and of deleting and adding a grid, as the functions apply them: those of the file first.
 -- Assumes nothing.
-use mathlib.Core.Path.{_≡_, refl, _∙_}
+use mathlib.Core.Path.{_≡_, refl, ap, _∙_}
 use mathlib.Core.Bool.{not}
 use mathlib.Core.List.{List, [], _∷_}
 use Prim.Native.Nat.{ℕ, _+_}
@@ -18,8 +18,22 @@ use Rattle.refusal_rules.proofs.Tables.{fault-joined, pass-joined, by-table}
 use Rattle.grid_rules.specs.Rules.{emptySlot, gridFileRules, wantedRules}
 use Rattle.extent_rules.specs.Steps.{GridAccepted, survey}
 use Rattle.extent_rules.specs.declared.Survey.{Survey}
-use Rattle.grid_update_rules.specs.Updates.{tableRule, deleteOwn, deleteRules, addOwn, addRules}
-use Rattle.grid_update_rules.specs.Steps.{stepped}
+use Rattle.grid_update_rules.specs.Updates.{tableRule, stretchRules, deleteOwn, deleteRules, addOwn, addRules}
+use Rattle.grid_update_rules.specs.Steps.{counted, stepped}
+
+-- ---- telling the free stretches
+
+module _ (o : Order) (f : List ℕ) (size : ℕ) where
+  -- a fault of the file
+  pub stretch-file : (r : Refusal) → firstFault (gridFileRules (length f) (wordAt o f)) ≡ Fault r → Fault r ≡ firstFault (stretchRules o f size)
+  unfolding stretchRules
+  stretch-file r e = fault-joined (gridFileRules (length f) (wordAt o f)) (tableRule (wordAt o f) size ∷ []) r e
+
+  -- of an accepted file, what the rule of the table says
+  pub stretch-table : GridAccepted o f → first Pass (judge (tableRule (wordAt o f) size)) ≡ firstFault (stretchRules o f size)
+  unfolding stretchRules chained
+  stretch-table a =
+      by-table (tableRule (wordAt o f) size ∷ []) refl ∙ pass-joined (gridFileRules (length f) (wordAt o f)) (tableRule (wordAt o f) size ∷ []) a
 
 -- ---- deleting
 
@@ -70,11 +84,20 @@ module _ (o : Order) (f : List ℕ) (headers rows columns values size : ℕ) whe
 
 -- ---- what a call leaves, by the verdict of its rules
 
+module _ {Value : Type 0} (v : Verdict) (value : ℕ → Value) (o : Order) (g : List ℕ) where
+  -- where they pass, for the survey of a file
+  pub counted-pass : v ≡ Pass → (s : Survey) → s ≡ survey o g → (gives (value (s .count)), s .count) ≡ counted v value o g
+  unfolding survey
+  counted-pass e s surveyed = rw (e, surveyed)
+
+  -- and where they do not
+  pub counted-fault : (r : Refusal) → v ≡ Fault r → (refuses (r .number) (r .place), 0) ≡ counted v value o g
+  counted-fault r e = rw e
+
 module _ {Value : Type 0} (v : Verdict) (value : ℕ → Value) (o : Order) (f g : List ℕ) where
   -- where they pass, for the survey of the changed file
   pub step-pass : v ≡ Pass → (h : List ℕ) → h ≡ g → (s : Survey) → s ≡ survey o h → ((gives (value (s .count)), s .count), h) ≡ stepped v value o f g
-  unfolding survey
-  step-pass e h is s surveyed = rw (e, surveyed, is)
+  step-pass e h is s surveyed = rw (counted-pass v value o g e s (surveyed ∙ ap (survey o) is), e, is)
 
   -- and where they do not
   pub step-fault : (r : Refusal) → v ≡ Fault r → ((refuses (r .number) (r .place), 0), f) ≡ stepped v value o f g

@@ -1,4 +1,4 @@
--- Deleting and adding, computed on the worked file G of document 01: 84 words, n = 2, grid 1 at word 14 with 6 points, and no grid 2.
+-- Telling the free stretches, deleting and adding, computed on the worked file G of document 01: 84 words, n = 2, grid 1 at word 14 with 6 points, and no grid 2.
 -- Assumes nothing.
 use mathlib.Core.Path.{_≡_, refl}
 use mathlib.Core.List.{List, [], _∷_}
@@ -19,7 +19,7 @@ use Rattle.grid_rules.specs.Worked.{wordsG, fileG, G}
 use Rattle.extent_rules.specs.Stretches.{extent, slotExtent, highestEnd, noGridHas, stretchStarts, runFrom, stretchAt, freeStretches}
 use Rattle.extent_rules.specs.Rooms.{fitsAt, lowestAddress}
 use Rattle.extent_rules.specs.declared.Extent.{Extent}
-use Rattle.grid_update_rules.specs.Updates.{setWord, stretchesOf, nextFreeSet, deleteRules, withoutGrid, deleteGrid, lowestEmpty, addRules, gridBytes, gridPut, withGrid, addGrid}
+use Rattle.grid_update_rules.specs.Updates.{setWord, stretchesOf, nextFreeSet, stretchRules, tellStretches, deleteRules, withoutGrid, deleteGrid, lowestEmpty, addRules, gridBytes, gridPut, withGrid, addGrid}
 
 -- a table of three pairs, which is n + 1
 unfoldable pub table : List Extent
@@ -43,8 +43,12 @@ emptied =
 pub record WorkedChanges : Type 0 where
   -- the grid of G takes every word from 12 + n on
   pub no-stretch : stretchesOf Big G ≡ []
+  pub none-told : tellStretches Big G table ≡ (gives 0, table)
   -- without it all 70 words from 14 on are one stretch, which stands in the first place of the table; the other places stay
   pub deleted : deleteGrid Big G 1 table ≡ (gives 1, (emptied, extent 14 70 ∷ extent 7 7 ∷ extent 7 7 ∷ []))
+  pub told : tellStretches Big emptied table ≡ (gives 1, extent 14 70 ∷ extent 7 7 ∷ extent 7 7 ∷ [])
+  -- two pairs are too few for telling them
+  pub not-told : tellStretches Big emptied (extent 7 7 ∷ extent 7 7 ∷ []) ≡ (refuses 10 0, extent 7 7 ∷ extent 7 7 ∷ [])
   -- grid 2 is absent, G has no grid 3, and two pairs are too few: file and table are as they were
   pub absent : deleteGrid Big G 2 table ≡ (refuses 6 0, (G, table))
   pub no-such : deleteGrid Big G 3 table ≡ (refuses 7 0, (G, table))
@@ -60,14 +64,17 @@ pub record WorkedChanges : Type 0 where
   pub no-room : addGrid Big G (replicate 256 0) 1 1 (pos 5 ∷ []) table ≡ (refuses 14 0, (G, table))
 
 pub worked-changes : WorkedChanges
-unfolding deleteGrid deleteRules withoutGrid addGrid addRules withGrid gridPut gridBytes lowestEmpty setWord nextFreeSet table emptied
+unfolding tellStretches stretchRules deleteGrid deleteRules withoutGrid addGrid addRules withGrid gridPut gridBytes lowestEmpty setWord nextFreeSet table emptied
     lowestAddress fitsAt freeStretches stretchAt runFrom stretchStarts noGridHas highestEnd slotExtent lowest linesOf
     gridFileRules gridHeadRules slotsRules slotRules ownRules headerRules sizeRules overlapRule meets shares wantedRules
     firstFault first judge within atLeast wordAt numberAt decode value encode digits bytesOf given wordsG fileG G
 worked-changes =
     record {
       no-stretch = refl;
+      none-told = refl;
       deleted = refl;
+      told = refl;
+      not-told = refl;
       absent = refl;
       no-such = refl;
       short = refl;

@@ -1,4 +1,4 @@
--- What the functions under the two calls do that work on the file alone: what is answered, how many places of the table are to be filled, and the file.
+-- What the functions under the calls do that work on the file alone: what is answered, how many places of the table are to be filled, and the file.
 -- Assumes nothing.
 use mathlib.Core.Path.{_≡_}
 use mathlib.Core.List.{List}
@@ -16,24 +16,32 @@ use Rattle.extent_rules.specs.Stretches.{noWords}
 use Rattle.extent_rules.specs.Rooms.{firstFitting}
 use Rattle.extent_rules.specs.Steps.{nthRun}
 use Rattle.extent_rules.specs.declared.Extent.{Extent}
-use Rattle.grid_update_rules.specs.Updates.{addSays, stretchesOf, deleteRules, withoutGrid, gridWords, lowestEmpty, addressFor, addRules, withGrid, added}
+use Rattle.grid_update_rules.specs.Updates.{addSays, stretchesOf, stretchRules, deleteRules, withoutGrid, gridWords, lowestEmpty, addressFor, addRules, withGrid, added, fileLeft}
 use Rattle.grid_update_rules.specs.declared.Added.{Added}
-use Rattle.grid_update_rules.specs.declared.DeletionStep.{DeletionStep}
+use Rattle.grid_update_rules.specs.declared.StretchStep.{StretchStep}
 use Rattle.grid_update_rules.specs.declared.AddPlan.{AddPlan}
 use Rattle.grid_update_rules.specs.declared.AdditionStep.{AdditionStep}
 
--- what a deletion in the file says: the answer, and how many places of the table are to be filled
-abbrev pub deletionSays : DeletionStep → Answer ℕ × ℕ
-deletionSays d = (sizeSays (d .answer), d .count)
+-- what deleting in the file, or counting its free stretches, says: the answer, and how many places of the table are to be filled
+abbrev pub stretchSays : StretchStep → Answer ℕ × ℕ
+stretchSays d = (sizeSays (d .answer), d .count)
 
 -- what an addition in the file says: the answer, and how many places of the table are to be filled
 abbrev pub additionSays : AdditionStep → Answer Added × ℕ
 additionSays a = (addSays (a .answer), a .count)
 
--- what a step says and the file that it leaves, by the verdict of its call's rules: the value, as many places as the changed file g has free stretches, and g; or the refusal, no place, and the file f
+-- what a step says of the free stretches of a file, by the verdict of its call's rules: the value, made of their number, and as many places; or the refusal, and no place
+abbrev pub counted : {Value : Type 0} → Verdict → (ℕ → Value) → Order → List ℕ → Answer Value × ℕ
+counted Pass value o f = (gives (value (length (stretchesOf o f))), length (stretchesOf o f))
+counted (Fault r) value o f = (refuses (r .number) (r .place), 0)
+
+-- what a step that changes a file f into g says, of the free stretches of g, and the file that it leaves
 abbrev pub stepped : {Value : Type 0} → Verdict → (ℕ → Value) → Order → List ℕ → List ℕ → (Answer Value × ℕ) × List ℕ
-stepped Pass value o f g = ((gives (value (length (stretchesOf o g))), length (stretchesOf o g)), g)
-stepped (Fault r) value o f g = ((refuses (r .number) (r .place), 0), f)
+stepped v value o f g = (counted v value o g, fileLeft v f g)
+
+-- what counting the free stretches says, with a table of `size` pairs
+unfoldable pub tellStep : Order → List ℕ → ℕ → Answer ℕ × ℕ
+tellStep o f size = counted (firstFault (stretchRules o f size)) (λ count. count) o f
 
 -- what deleting in the file says, with a table of `size` pairs, and the file that it leaves
 unfoldable pub deleteStep : Order → List ℕ → ℕ → ℕ → (Answer ℕ × ℕ) × List ℕ

@@ -1,5 +1,5 @@
 -- Deleting and adding a grid: document 02, request 5, in the order of its sentences; what several of them use stands first. "Both calls take file and byte order, no
--- layout." Free words, the longest runs of them and the lowest address are defined in extent_rules.
+-- layout." Free words, the longest runs of them and the lowest address are defined in extent_rules. A third call tells the free stretches, and changes no file.
 -- Assumes nothing.
 use mathlib.Core.List.{List, [], _∷_, _++_, map}
 use Prim.Native.Nat.{ℕ, _+_, _*_, _/_}
@@ -125,11 +125,20 @@ addRules o f headers rows columns values size = gridFileRules (length f) (wordAt
 
 -- ---- the two calls
 
--- What either call answers, and the file and the table that it leaves, by the verdict of its rules: the value, made of the number of free stretches, the changed
--- file g, and its free stretches in the first places of the table t, with "places past them stay"; or the refusal, and the file f and the table as they were.
+-- What a call answers of the free stretches of a file, and the table that it leaves, by the verdict of its rules: the value, made of their number, and the free
+-- stretches in the first places of the table t, with "places past them stay"; or the refusal, and the table as it was.
+abbrev pub listed : {Value : Type 0} → Verdict → (ℕ → Value) → Order → List ℕ → List Extent → Answer Value × List Extent
+listed Pass value o f t = (gives (value (length (stretchesOf o f))), over (stretchesOf o f) t)
+listed (Fault r) value o f t = (refuses (r .number) (r .place), t)
+
+-- the file that a call leaves, by the verdict of its rules: the changed file g, or the file f as it was
+abbrev pub fileLeft : Verdict → List ℕ → List ℕ → List ℕ
+fileLeft Pass f g = g
+fileLeft (Fault r) f g = f
+
+-- what a call that changes a file f into g answers, of the free stretches of g, and the file and the table that it leaves
 abbrev pub changed : {Value : Type 0} → Verdict → (ℕ → Value) → Order → List ℕ → List ℕ → List Extent → Answer Value × (List ℕ × List Extent)
-changed Pass value o f g t = (gives (value (length (stretchesOf o g))), (g, over (stretchesOf o g) t))
-changed (Fault r) value o f g t = (refuses (r .number) (r .place), (f, t))
+changed v value o f g t = (listed v value o g t .0, (fileLeft v f g, listed v value o g t .1))
 
 -- what deleting the grid of a number answers, which is the number of free stretches, and the file and the table that it leaves
 unfoldable pub deleteGrid : Order → List ℕ → ℕ → List Extent → Answer ℕ × (List ℕ × List Extent)
@@ -139,3 +148,13 @@ deleteGrid o f number t = changed (firstFault (deleteRules o f number (length t)
 unfoldable pub addGrid : Order → List ℕ → List ℕ → ℕ → ℕ → List ℤ → List Extent → Answer Added × (List ℕ × List Extent)
 addGrid o f header rows columns values t =
     changed (firstFault (addRules o f (length header) rows columns (length values) (length t))) (added o f rows columns) o f (withGrid o f header rows columns values) t
+
+-- ---- telling the free stretches
+
+-- all rules of telling the free stretches in a table of `size` pairs: 1 to 5 on the file, and then "10 for a table of fewer than n+1 pairs"
+unfoldable pub stretchRules : Order → List ℕ → ℕ → List Rule
+stretchRules o f size = gridFileRules (length f) (wordAt o f) ++ tableRule (wordAt o f) size ∷ []
+
+-- what telling the free stretches of a file that stays as it is answers, which is their number, and the table that it leaves, in whose first places they stand
+unfoldable pub tellStretches : Order → List ℕ → List Extent → Answer ℕ × List Extent
+tellStretches o f t = listed (firstFault (stretchRules o f (length t))) (λ count. count) o f t

@@ -1,5 +1,5 @@
-// What deleting and adding a grid answer and leave: document 02, request 5. There is no code here: see specs/ and proofs/. The calls are
-// `grid_updates::delete` and `grid_updates::add`.
+// What deleting and adding a grid answer and leave, and the free stretches of a file: document 02, request 5. There is no code here: see specs/ and proofs/. The
+// calls are `grid_updates::delete`, `grid_updates::add` and `grid_updates::free_stretches`.
 use extent_rules::Extent;
 use refusal_rules::Refusal;
 use refusal_rules::SizeAnswer;
@@ -18,8 +18,8 @@ pub enum AddAnswer {
     Refused(Refusal),
 }
 
-// What deleting a grid leaves to be done: what is answered, and how many places of the table are to be filled.
-pub struct DeletionStep {
+// What deleting a grid, or telling the free stretches, leaves to be done: what is answered, and how many places of the table are to be filled.
+pub struct StretchStep {
     pub answer: SizeAnswer,
     pub count: usize,
 }

@@ -14,7 +14,7 @@ use grid_update_rules::AddAnswer;
 use grid_update_rules::AddPlan;
 use grid_update_rules::Added;
 use grid_update_rules::AdditionStep;
-use grid_update_rules::DeletionStep;
+use grid_update_rules::StretchStep;
 use refusal::check;
 use refusal::within;
 use refusal_rules::ABSENT;
@@ -40,7 +40,7 @@ ghost use Rattle.refusal_rules.specs.Rules.{firstFault};
 ghost use Rattle.extent_rules.specs.Stretches.{firstWord, highestEnd};
 ghost use Rattle.extent_rules.specs.Steps.{SlotsInside, GridAccepted};
 ghost use Rattle.grid_update_rules.specs.Updates.{nextFreeSet, deleteRules, lowestEmpty, addRules, gridBytes};
-ghost use Rattle.grid_update_rules.specs.Steps.{deletionSays, deleteStep, refusedPlan, addPlan, additionSays, addStep, Ready};
+ghost use Rattle.grid_update_rules.specs.Steps.{stretchSays, deleteStep, refusedPlan, addPlan, additionSays, addStep, Ready};
 
 // Sets the next free word to the end of the highest grid, or to 12 + n where there is none. The directory must be inside the file, and each grid, and the end must
 // be a signed word.
@@ -74,11 +74,11 @@ fn delete_verdict(file: &[u8], order: Order, number: u32, size: usize) -> Verdic
 }
 
 // Deletes the grid of a number, with a table of `size` pairs. Refused as `grid_updates::delete`.
-pub fn delete_in(file: &mut [u8], order: Order, number: u32, size: usize) -> DeletionStep
-    ensures { λ r. ⌜ (deletionSays r, now (file .exit)) ≡ deleteStep order (now (file .entry)) number size ⌝ }
+pub fn delete_in(file: &mut [u8], order: Order, number: u32, size: usize) -> StretchStep
+    ensures { λ r. ⌜ (stretchSays r, now (file .exit)) ≡ deleteStep order (now (file .entry)) number size ⌝ }
 {
     match delete_verdict(file, order, number, size) {
-        Verdict::Fault(refusal) => DeletionStep {
+        Verdict::Fault(refusal) => StretchStep {
             answer: SizeAnswer::Refused(refusal),
             count: 0,
         },
@@ -87,7 +87,7 @@ pub fn delete_in(file: &mut [u8], order: Order, number: u32, size: usize) -> Del
             set_next_free(file, order);
             let stretches = survey_free(file, order);
             let count = stretches.count;
-            DeletionStep {
+            StretchStep {
                 answer: SizeAnswer::Value(count),
                 count: count,
             }

@@ -1,17 +1,65 @@
-// Deleting a grid and adding one, with the room of deleted grids used again. Both calls take the file and its byte order, and no layout; after either, a lent
-// table holds the free stretches of the file, the longest runs of words that no grid has, in address order.
+// The free stretches of a file, the longest runs of words that no grid has; deleting a grid and adding one, with the room of deleted grids used again. The calls
+// take the file and its byte order, and no layout; after each, a lent table holds the free stretches of the file in address order.
 use endian_rules::Order;
+use endian_steps::read_word;
 use extent_rules::Extent;
+use extent_steps::survey_free;
 use extent_table_steps::fill;
 use extent_table_steps::search;
+use grid::file_verdict;
 use grid_update_rules::AddAnswer;
+use grid_update_rules::StretchStep;
 use grid_update_steps::add_at;
 use grid_update_steps::delete_in;
 use grid_update_steps::plan_add;
+use refusal::check;
+use refusal_rules::SHORT_OUTPUT;
 use refusal_rules::SizeAnswer;
+use refusal_rules::Verdict;
 ghost use mathlib.Core.Path.{_≡_};
 ghost use Rattle.refusal_rules.specs.Answers.{sizeSays};
-ghost use Rattle.grid_update_rules.specs.Updates.{deleteGrid, addSays, addGrid};
+ghost use Rattle.grid_update_rules.specs.Steps.{stretchSays, tellStep};
+ghost use Rattle.grid_update_rules.specs.Updates.{tellStretches, deleteGrid, addSays, addGrid};
+
+// Counts the free stretches of a file, for a table of `size` pairs. Refused as `free_stretches`.
+fn count_stretches(file: &[u8], order: Order, size: usize) -> StretchStep
+    ensures { λ r. ⌜ stretchSays r ≡ tellStep order (now (file .entry)) size ⌝ }
+{
+    match file_verdict(file, order) {
+        Verdict::Fault(refusal) => StretchStep {
+            answer: SizeAnswer::Refused(refusal),
+            count: 0,
+        },
+        Verdict::Pass => {
+            let n = read_word(order, file, 10) as usize;
+            match check(Verdict::Pass, n + 1 <= size, SHORT_OUTPUT, 0) {
+                Verdict::Fault(refusal) => StretchStep {
+                    answer: SizeAnswer::Refused(refusal),
+                    count: 0,
+                },
+                Verdict::Pass => {
+                    let stretches = survey_free(file, order);
+                    let count = stretches.count;
+                    StretchStep {
+                        answer: SizeAnswer::Value(count),
+                        count: count,
+                    }
+                }
+            }
+        }
+    }
+}
+
+// Answers how many free stretches the file has, which then stand in the first places of the table, in address order; places past them stay.
+//
+// Refused by the first fault of the whole file, 1 to 5; then with 10 where the table has fewer than n + 1 places. A refusal leaves the table as it was.
+pub fn free_stretches(file: &[u8], order: Order, table: &mut [Extent]) -> SizeAnswer
+    ensures { λ r. ⌜ (sizeSays r, now (table .exit)) ≡ tellStretches order (now (file .entry)) (now (table .entry)) ⌝ }
+{
+    let step = count_stretches(file, order, table.len());
+    fill(table, file, order, step.count);
+    step.answer
+}
 
 // Deletes the grid of a number, counted from 1: its slot becomes empty, and the next free word the end of the highest grid that is left. No other byte changes.
 // Answers how many free stretches the file has now, which stand in the first places of the table; places past them stay.

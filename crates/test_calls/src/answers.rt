@@ -5,6 +5,7 @@ use endian::unsigned;
 use extent_rules::Extent;
 use grid_update_rules::AddAnswer;
 use grid_updates_by_value::PLACES;
+use grid_updates_by_value::SHORT_PLACES;
 use layout_rules::Layout;
 use layout_rules::Opening;
 use libc::STDOUT_FILENO;
@@ -157,11 +158,16 @@ pub fn say_store(answer: StoreAnswer) {
     }
 }
 
+// Writes a place of a table: its start and its length.
+fn say_place(place: Extent) {
+    say(NEXT, place.start as u64);
+    say(PLUS, place.length as u64);
+}
+
 // Writes the start and the length of a stretch, where it is not empty.
 fn say_stretch(stretch: Extent) {
     if 0 < stretch.length {
-        say(NEXT, stretch.start as u64);
-        say(PLUS, stretch.length as u64);
+        say_place(stretch);
     }
 }
 
@@ -172,6 +178,14 @@ pub fn say_table(table: [Extent; PLACES]) {
         say_stretch(table[i]);
         i += 1;
     }
+}
+
+// Writes each place of a short table.
+pub fn say_places(table: [Extent; SHORT_PLACES]) {
+    say_place(table[0]);
+    say_place(table[1]);
+    say_place(table[2]);
+    say_place(table[3]);
 }
 
 // Writes the number and the address of a grid that was added and how many free stretches there are, or the refusal.

@@ -1,9 +1,10 @@
-// The bytes of a file: made, set by words, stored into, compared with a copy; grids deleted from it and added to it.
+// The bytes of a file: made, set by words, stored into, compared with a copy; grids deleted from it and added to it, and its free stretches.
 use crate::answers::EQUALS;
 use crate::answers::NEXT;
 use crate::answers::print;
 use crate::answers::say;
 use crate::answers::say_added;
+use crate::answers::say_places;
 use crate::answers::say_size;
 use crate::answers::say_store;
 use crate::answers::say_table;
@@ -17,10 +18,17 @@ use endian::signed;
 use endian_rules::Order;
 use endian_steps::read_word;
 use endian_steps::write_number;
+use extent_rules::Extent;
 use grid_updates_by_value::Addition;
-use grid_updates_by_value::Deletion;
+use grid_updates_by_value::SHORT_PLACES;
+use grid_updates_by_value::ShortAddition;
+use grid_updates_by_value::ShortStretchTable;
+use grid_updates_by_value::StretchTable;
+use grid_updates_by_value::add_with_short_table;
 use grid_updates_by_value::add_with_table;
+use grid_updates_by_value::delete_with_short_table;
 use grid_updates_by_value::delete_with_table;
+use grid_updates_by_value::free_stretches_with_table;
 use layout_rules::Layout;
 use stores::store_field;
 use stores::store_point;
@@ -28,6 +36,12 @@ use stores::store_sample;
 
 // The word `store-point ROW COLUMN NUMBER`. `store-field ROW COLUMN POSITION NUMBER` has the next number, and is the last word that stores.
 const STORE_POINT: u32 = 24;
+
+// The word `add ROWS COLUMNS FIRST VALUES BYTES`.
+pub const ADD: u32 = 27;
+
+// The word `add-short ROWS COLUMNS FIRST VALUES BYTES`.
+pub const ADD_SHORT: u32 = 28;
 
 // Stores a number, with a layout, and writes what came back.
 pub fn store_value(file: &mut [u8], layout: Layout, call: u32, n: Numbers) {
@@ -45,17 +59,57 @@ pub fn store_value(file: &mut [u8], layout: Layout, call: u32, n: Numbers) {
     }
 }
 
-// Writes what deleting a grid answers: how many free stretches there are, and each of them.
-fn say_deletion(deletion: Deletion) {
-    let answer = deletion.answer;
-    let table = deletion.table;
+// Writes what telling the free stretches or deleting a grid answers: how many free stretches there are, and each of them.
+fn say_stretches(stretches: StretchTable) {
+    let answer = stretches.answer;
+    let table = stretches.table;
     say_size(answer);
     say_table(table);
 }
 
+// Tells the free stretches: `stretches`.
+pub fn tell_stretches(file: &[u8], order: Order) {
+    say_stretches(free_stretches_with_table(file, order));
+}
+
 // Deletes the grid of a number: `delete NUMBER`.
 pub fn delete_grid(file: &mut [u8], order: Order, number: u32) {
-    say_deletion(delete_with_table(file, order, number));
+    say_stretches(delete_with_table(file, order, number));
+}
+
+// A short table before a call: no place is zero, and each differs from the others.
+fn short_table() -> [Extent; SHORT_PLACES] {
+    [
+        Extent {
+            start: 9001,
+            length: 901,
+        },
+        Extent {
+            start: 9002,
+            length: 902,
+        },
+        Extent {
+            start: 9003,
+            length: 903,
+        },
+        Extent {
+            start: 9004,
+            length: 904,
+        },
+    ]
+}
+
+// Writes what deleting a grid with a short table answers: how many free stretches there are, and each place.
+fn say_short_stretches(stretches: ShortStretchTable) {
+    let answer = stretches.answer;
+    let table = stretches.table;
+    say_size(answer);
+    say_places(table);
+}
+
+// Deletes the grid of a number, with a short table: `delete-short NUMBER`.
+pub fn delete_short(file: &mut [u8], order: Order, number: u32) {
+    say_short_stretches(delete_with_short_table(file, order, number, short_table()));
 }
 
 // Writes what adding a grid answers: its number and address, how many free stretches there are, and each of them.
@@ -64,6 +118,14 @@ fn say_addition(addition: Addition) {
     let table = addition.table;
     say_added(answer);
     say_table(table);
+}
+
+// Writes what adding a grid with a short table answers: its number and address, how many free stretches there are, and each place.
+fn say_short_addition(addition: ShortAddition) {
+    let answer = addition.answer;
+    let table = addition.table;
+    say_added(answer);
+    say_places(table);
 }
 
 // The bytes that headers are made of: byte i is i + 1 modulo 256.
@@ -90,30 +152,39 @@ fn values_from(first: u32) -> [i32; 100] {
     values
 }
 
+// Adds a grid, by the word of a number.
+fn add_whole(file: &mut [u8], order: Order, call: u32, n: Numbers, header: &[u8], values: &[i32]) {
+    match call {
+        ADD => say_addition(add_with_table(file, order, header, n.a, n.b, values)),
+        _ => say_short_addition(add_with_short_table(
+            file,
+            order,
+            header,
+            n.a,
+            n.b,
+            values,
+            short_table(),
+        )),
+    }
+}
+
 // Adds a grid, with the first bytes of a header and the first of some values; adds none where they are too few.
-fn add_made(file: &mut [u8], order: Order, n: Numbers, header: &[u8], values: &[i32]) {
+fn add_made(file: &mut [u8], order: Order, call: u32, n: Numbers, header: &[u8], values: &[i32]) {
     let count = n.d as usize;
     let bytes = n.e as usize;
     if count <= values.len() {
         if bytes <= header.len() {
-            say_addition(add_with_table(
-                file,
-                order,
-                &header[0..bytes],
-                n.a,
-                n.b,
-                &values[0..count],
-            ));
+            add_whole(file, order, call, n, &header[0..bytes], &values[0..count]);
         }
     }
 }
 
 // Adds a grid: `add ROWS COLUMNS FIRST VALUES BYTES`, with so many values, at most 100, which are FIRST, FIRST + 1 and so on, and with a header of so many bytes, at most
-// 300, of which byte i is i + 1 modulo 256.
-pub fn add_grid(file: &mut [u8], order: Order, n: Numbers) {
+// 300, of which byte i is i + 1 modulo 256; or `add-short`, with the same and a short table.
+pub fn add_grid(file: &mut [u8], order: Order, call: u32, n: Numbers) {
     let header = made_header();
     let values = values_from(n.c);
-    add_made(file, order, n, &header, &values);
+    add_made(file, order, call, n, &header, &values);
 }
 
 // A word of the file, counted from 0, or 0 where the file has it not.

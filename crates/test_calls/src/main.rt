@@ -1,5 +1,5 @@
 // A script of calls: each line is written to standard output with what came back, first with files in big order and then with files in little order. The script, in the
-// file `stdin`, has the worked files of document 01 and files like them: opened, cut, changed, read, stored into, with grids deleted and added. What the program must
+// file `stdin`, has the worked files of document 01 and files like them: opened, cut, changed, read, stored into, with grids deleted and added, and with their free stretches told. What the program must
 // write, in the file `stdout`, was worked out from documents 01 and 02.
 //
 // The first line of a script lists the words, in the order of their numbers, which `asks`, `changes` and the constants below have. Each line behind it is a word and
@@ -21,15 +21,19 @@ use asks::STORE_SAMPLE;
 use asks::ask;
 use calendar::date_of;
 use calendar::time_of;
+use changes::ADD;
+use changes::ADD_SHORT;
 use changes::add_grid;
 use changes::compare;
 use changes::copy_bytes;
 use changes::delete_grid;
+use changes::delete_short;
 use changes::make_bytes;
 use changes::make_words;
 use changes::set_word;
 use changes::set_words;
 use changes::store_value;
+use changes::tell_stretches;
 use changes::word_at;
 use endian::signed;
 use endian_rules::Order;
@@ -51,44 +55,47 @@ const STORE_FIELD: u32 = 25;
 // The word `delete NUMBER`.
 const DELETE: u32 = 26;
 
-// The word `add ROWS COLUMNS FIRST VALUES BYTES`.
-const ADD: u32 = 27;
+// The word `delete-short NUMBER`. Between this word and `delete` stand `add` and `add-short`.
+const DELETE_SHORT: u32 = 29;
+
+// The word `stretches`.
+const STRETCHES: u32 = 30;
 
 // The word `word K` writes word K, counted from 0.
-const WORD: u32 = 28;
+const WORD: u32 = 31;
 
 // The word `date WORD`.
-const DATE: u32 = 29;
+const DATE: u32 = 32;
 
 // The word `time WORD`.
-const TIME: u32 = 30;
+const TIME: u32 = 33;
 
 // The word `words K=N ..` sets words, each by its number and its value. AREA counts words from 1, the others from 0.
-const WORDS: u32 = 31;
+const WORDS: u32 = 34;
 
 // The word `with K N NUMBER` opens the file with word K as N, where it is a GRID file the grid of a number.
-const WITH: u32 = 32;
+const WITH: u32 = 35;
 
 // The word `area LENGTH` makes an AREA file of a length in bytes, at most 16,484. Its directory holds 0, and each byte i behind it i modulo 256: a value shows where it was read.
-const AREA: u32 = 33;
+const AREA: u32 = 36;
 
 // The word `grid LENGTH` makes a GRID file likewise. Each word k holds k, and the bytes behind the last whole word what they held.
-const GRID: u32 = 34;
+const GRID: u32 = 37;
 
 // The word `md LENGTH` makes an MD file likewise.
-const MD: u32 = 35;
+const MD: u32 = 38;
 
 // The word `open NUMBER` opens the file, where it is a GRID file the grid of a number.
-const OPEN: u32 = 36;
+const OPEN: u32 = 39;
 
 // The word `keep` keeps a copy of the file, in place of the one before.
-const KEEP: u32 = 37;
+const KEEP: u32 = 40;
 
 // The word `restore` puts the bytes of the copy back, as many as both have.
-const RESTORE: u32 = 38;
+const RESTORE: u32 = 41;
 
 // The word `differences` writes each byte of the file that differs from the copy.
-const DIFFERENCES: u32 = 39;
+const DIFFERENCES: u32 = 42;
 
 // What a script is at: the kind of the file, as the word that makes it, and its length; the kind, the grid number and the length of the file that opening last gave a
 // layout for, whose bytes are kept; and the length of the copy that is kept.
@@ -160,7 +167,9 @@ fn try_word(file: &mut [u8], order: Order, kind: u32, n: Numbers) {
 fn change(file: &mut [u8], order: Order, kind: u32, call: u32, n: Numbers, line: &[u8]) {
     match call {
         DELETE => delete_grid(file, order, n.a),
-        ADD => add_grid(file, order, n),
+        ADD..=ADD_SHORT => add_grid(file, order, call, n),
+        DELETE_SHORT => delete_short(file, order, n.a),
+        STRETCHES => tell_stretches(file, order),
         WORD => say_word(FIRST, signed(word_at(file, order, n.a))),
         DATE => say_date(date_of(signed(n.a))),
         TIME => say_time(time_of(signed(n.a))),

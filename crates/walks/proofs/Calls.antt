@@ -5,12 +5,13 @@
 --     yields           of a call that yields Y of its result, Z is wanted, which follows from Y
 --     calls-into       in code: a call that yields Z of its result, and whose result is stored into the local at entry n
 --     asks             what a callee asks is there, and the callee meets its contract: what it ensures is used
---     answers          what a callee leaves, taken apart: its result, of which the relation is learned; the tokens; the last lists; and what it ensures
+--     call-answers     what a callee leaves, taken apart: its result, of which the relation is learned; the tokens; the last lists; and what it ensures
 --     informs          what a call has left gives a fact, after an update of ghost state, and is used from there on
 --     hands-on         what a callee leaves gives what another contract wants, of the same result, which is of its type
---     Told             u is the machine value of an answer
---     answered         a callee that meets its contract can be called, where its answer is s by that contract, and s is z. Once it has returned, the tokens of
---                      its lifetimes are there again, and what else there was
+--     ValueIs          u is the machine value of an answer
+--     call-yields      a callee that meets its contract can be called, where Q holds of its answer by that contract. Once it has returned, the tokens of its
+--                      lifetimes are there again, and what else there was
+--     call-answered    the same, where its answer is s by that contract, and s is z
 -- Assumes nothing.
 use mathlib.Core.Path.{_≡_, sym, subst, ap, _∙_}
 use mathlib.Core.List.{List, [], _∷_}
@@ -127,10 +128,9 @@ pub record ValueIs (R : RattleType) (vals : R .Denot → List Val) (s : R .Denot
   pub is-value : u ∷ [] ≡ vals s
   pub is : Is R s (vals s)
 
--- y is what the callee is passed, and by its contract its answer is then s
+-- y is what the callee is passed
 module _ {M : Type 1} (𝓤 : URA M) (H : Heap 𝓤) (A : Atoms 𝓤) (W : Given 𝓤 H A) (C : Calls 𝓤 H) (fm : FmC 𝓤 H (W .laws) C) (T : Ended) (c : Clauses 𝓤 T)
-    (y : Contracted 𝓤 H A T c .Ghost) (s : Res (T .signature) (y .0 .0))
-    (says : (r : Res (T .signature) (y .0 .0)) (e : AtExit T (y .0 .0)) → ent 𝓤 (c (y .0 .0) (y .0 .3) .ensures (y .1) r e) (fact 𝓤 (r ≡ s))) where
+    (y : Contracted 𝓤 H A T c .Ghost) where
   abbrev R : RattleType
   R = typeAt (T .signature .result) (y .0 .0)
 
@@ -140,16 +140,30 @@ module _ {M : Type 1} (𝓤 : URA M) (H : Heap 𝓤) (A : Atoms 𝓤) (W : Given
   abbrev Owned : Item 𝓤
   Owned = ‵ (owns (typesAt (T .signature .params) (y .0 .0)) (y .0 .3) (y .0 .4))
 
-  -- F is what else there is
-  pub call-answered : (vals : R .Denot → List Val) → Tells R (Is R) vals → Lawful 𝓤 H A R → (z : R .Denot) → s ≡ z → (F : SProp 𝓤) (f : Name)
+  -- by its contract Q holds of its answer, and F is what else there is
+  pub call-yields : (Q : R .Denot → Type 0) → ((r : Res (T .signature) (y .0 .0)) (e : AtExit T (y .0 .0)) → ent 𝓤 (c (y .0 .0) (y .0 .3) .ensures (y .1) r e) (fact 𝓤 (Q r)))
+      → (F : SProp 𝓤) (f : Name) → Triple 𝓤 (C f) (Contracted 𝓤 H A T c) → ent 𝓤 (emp 𝓤) (c (y .0 .0) (y .0 .3) .requires (y .1))
+      → ent 𝓤 (sep 𝓤 Tokens (sep 𝓤 (sem 𝓤 H A (owns (typesAt (T .signature .params) (y .0 .0)) (y .0 .3) (y .0 .4))) F))
+      (C f (Contracted 𝓤 H A T c .args y) (Yields 𝓤 H R (λ r. guard 𝓤 (Q r) (sep 𝓤 Tokens F))))
+  call-yields Q says F f known asked =
+      qed W (raw Tokens ∷ Owned ∷ raw F ∷ []) ∵ join ! $ use0 W (raw (c (y .0 .0) (y .0 .3) .requires (y .1))) asked $ move ! (1 ∷ 0 ∷ []) $
+      use2 W (raw (Contracted 𝓤 H A T c .pre y)) (id⊢ 𝓤 _) $ asks ! fm (Contracted 𝓤 H A T c) known y (λ u. updating ! $ call-answers ! T c y u (λ r is ws.
+      use1 W (raw (fact 𝓤 (Q r))) (says r (atExit T (y .0 .0) (y .0 .3) ws)) $ heard ! (Q r) (λ holds. move ! (1 ∷ []) $ drop ! $ at-once ! $
+      show ! (λ (z : R .Denot). guard 𝓤 (Is R z (u ∷ [])) (guard 𝓤 (Q z) (sep 𝓤 Tokens F))) r $ check ! is $ check ! holds $ done !)))
+
+  -- by its contract its answer is s
+  pub call-answered : (s : Res (T .signature) (y .0 .0))
+      → ((r : Res (T .signature) (y .0 .0)) (e : AtExit T (y .0 .0)) → ent 𝓤 (c (y .0 .0) (y .0 .3) .ensures (y .1) r e) (fact 𝓤 (r ≡ s)))
+      → (vals : R .Denot → List Val) → Tells R (Is R) vals → Lawful 𝓤 H A R → (z : R .Denot) → s ≡ z → (F : SProp 𝓤) (f : Name)
       → Triple 𝓤 (C f) (Contracted 𝓤 H A T c) → ent 𝓤 (emp 𝓤) (c (y .0 .0) (y .0 .3) .requires (y .1))
       → ent 𝓤 (sep 𝓤 Tokens (sep 𝓤 (sem 𝓤 H A (owns (typesAt (T .signature .params) (y .0 .0)) (y .0 .3) (y .0 .4))) F))
       (C f (Contracted 𝓤 H A T c .args y) (λ u. H .⇛ (guard 𝓤 (ValueIs R vals z u) (sep 𝓤 Tokens F))))
-  call-answered vals tells lawful z e F f known asked =
-      qed W (raw Tokens ∷ Owned ∷ raw F ∷ []) ∵ join ! $ use0 W (raw (c (y .0 .0) (y .0 .3) .requires (y .1))) asked $ move ! (1 ∷ 0 ∷ []) $
-      use2 W (raw (Contracted 𝓤 H A T c .pre y)) (id⊢ 𝓤 _) $ asks ! fm (Contracted 𝓤 H A T c) known y (λ u. updating ! $ call-answers ! T c y u (λ r is ws.
-      use1 W (raw (fact 𝓤 (r ≡ s))) (says r (atExit T (y .0 .0) (y .0 .3) ws)) $ heard ! (r ≡ s) (λ eq. move ! (1 ∷ []) $ drop ! $ at-once ! $ check ! (record {
+  call-answered s says vals tells lawful z e F f known asked =
+      qed W (raw (sep 𝓤 Tokens (sep 𝓤 (sem 𝓤 H A (owns (typesAt (T .signature .params) (y .0 .0)) (y .0 .3) (y .0 .4))) F)) ∷ []) ∵
+      use1 W (raw (C f (Contracted 𝓤 H A T c .args y) (Yields 𝓤 H R (λ r. guard 𝓤 (r ≡ s) (sep 𝓤 Tokens F))))) (call-yields (λ r. r ≡ s) says F f known asked) $
+      onward ! fm (λ u. updating ! $ use1 W (later (some (λ (r : R .Denot). given (Is R r (u ∷ [])) (given (r ≡ s) (raw (sep 𝓤 Tokens F)))))) (id⊢ 𝓤 _) $ await ! tt $
+      pick ! (λ r. learn ! (λ is. learn ! (λ eq. at-once ! $ check ! (record {
         typed = lawful .typed r (u ∷ []) is;
         is-value = tells r (u ∷ []) is ∙ ap vals (eq ∙ e);
         is = subst (λ (w : R .Denot). Is R w (vals w)) (eq ∙ e) (at-value R vals tells r (u ∷ []) is);
-      }) $ done !)))
+      }) $ done !))))

@@ -8,3 +8,4 @@ pub mod Locals
 pub mod Loops
 pub mod Proved
 pub mod Slices
+pub mod Rows

@@ -25,7 +25,7 @@ use sound.WpLaws.{FmC, fmOf}
 use denote.RattleType.{owns}
 use denote.Laws.{Is}
 use denote.Plain.{Nothing, nothing-tells}
-use denote.Builtin.{u8, usize}
+use denote.Builtin.{u8}
 use denote.Ref.{RefT, now}
 use denote.Slice.{slice-vals}
 use denote.Signature.{plain}
@@ -37,7 +37,6 @@ use denote.Triple.Entry.{Args, Vals, onEntry}
 use denote.Triple.Table.{cited}
 use denote.Triple.Walked.{says, ends-at}
 use Rattle.endian_rules.specs.declared.Order.{Order}
-use Rattle.refusal_rules.specs.declared.SizeAnswer.{SizeAnswer}
 use Rattle.refusal_rules.proofs.SizeAnswer as S
 use Rattle.refusal_rules.proofs.SizeAnswer.Laws as S′
 use Rattle.extent_rules.specs.Steps.{runsOver}
@@ -47,16 +46,16 @@ use Rattle.extent_table_steps.proofs.Extents.{order-value, an-order}
 use Rattle.extent_table_steps.proofs.fill.Met as fill-met
 use Rattle.extent_table_steps.proofs.fill.Symbol as fill-def
 use Rattle.extent_table_steps.proofs.fill.Symbol.{name as #fill}
-use Rattle.grid_update_rules.specs.Steps.{deletionSays, deleteStep}
-use Rattle.grid_update_rules.specs.declared.DeletionStep.{DeletionStep}
+use Rattle.grid_update_rules.specs.Steps.{stretchSays, deleteStep}
+use Rattle.grid_update_rules.specs.declared.StretchStep.{StretchStep}
 use Rattle.grid_update_rules.proofs.Calls.{delete-may-fill, delete-done}
-use Rattle.grid_update_rules.proofs.DeletionStep as D
-use Rattle.grid_update_rules.proofs.DeletionStep.Laws as D′
+use Rattle.grid_update_rules.proofs.StretchStep as D
+use Rattle.grid_update_rules.proofs.StretchStep.Laws as D′
 use Rattle.grid_update_steps.proofs.delete_in as deletes
 use Rattle.grid_update_steps.proofs.delete_in.Met as deletes-met
 use Rattle.grid_update_steps.proofs.delete_in.Symbol as deletes-def
 use Rattle.grid_update_steps.proofs.delete_in.Symbol.{name as #deletes}
-use Rattle.walks.proofs.Calls.{at-value, Yields, yields, calls-into}
+use Rattle.walks.proofs.Calls.{Yields, yields, calls-into}
 use Rattle.walks.proofs.Contracts.{Contracted}
 use Rattle.walks.proofs.Held.{HasSlice, counts}
 use Rattle.walks.proofs.Known.{Parameter, number, types-of, owned-values, by-value, held, knowns, stays, rows, Related, typed}
@@ -64,23 +63,12 @@ use Rattle.walks.proofs.LentCalls.{lends-mut}
 use Rattle.walks.proofs.Locals.{env, holding, starts, frees-all, at}
 use Rattle.walks.proofs.Proved.{Finished, proved}
 use Rattle.walks.proofs.Slices.{member, lends-on}
-use Rattle.grid_updates.proofs.Filling.{Filling, fills}
+use Rattle.extent_table_steps.proofs.Filling.{Filling, fills}
+use Rattle.grid_updates.proofs.Steps.{step-value, step-tells, answer-value, step-parts}
 use Rattle.grid_updates.proofs.delete as self
 use Rattle.grid_updates.proofs.delete.Code as code
 use Rattle.grid_updates.proofs.delete.Key as key
 use Rattle.grid_updates.proofs.delete.Statement.{statement}
-
--- the machine values of a deletion and of an answer
-abbrev deletion : DeletionStep → Val
-deletion = LL.val D.the-type D′.the-laws
-
-abbrev answer : SizeAnswer → Val
-answer = EL.val S.the-type S′.the-laws
-
--- the relations of a deletion's parts, from the deletion's own
-parts : (d : DeletionStep) (w : Val) → Is D.the-row d (w ∷ [])
-    → Is S.the-row (d .answer) (answer (d .answer) ∷ []) × (Is usize (d .count) (vint w64 (d .count) ∷ []) × Unit {0})
-parts d w is = LL.owed D.the-type D′.the-laws d (deletion d ∷ []) (at-value D.the-row (LL.vals D.the-type D′.the-laws) (LL.tells D.the-type D′.the-laws) d (w ∷ []) is)
 
 -- the file, the order, the number of the grid, and the table
 abbrev params : List (Parameter 2)
@@ -118,8 +106,8 @@ module _ (κs : Lfts 2) (a : Args self.signature κs) where
 
   -- ---- the calls that the code makes, where Z is what is wanted of the function's answer
   module _ {M : Type 1} (𝓤 : URA M) (H : Heap 𝓤) (C : Calls 𝓤 H) (Z : Val → SProp 𝓤) where
-    abbrev Fills : DeletionStep → SProp 𝓤
-    Fills d = C #fill (tv ∷ fv ∷ order-value order ∷ vint w64 (d .count) ∷ []) (Yields 𝓤 H Nothing (λ _. Z (answer (d .answer))))
+    abbrev Fills : StretchStep → SProp 𝓤
+    Fills d = C #fill (tv ∷ fv ∷ order-value order ∷ vint w64 (d .count) ∷ []) (Yields 𝓤 H Nothing (λ _. Z (answer-value (d .answer))))
 
     abbrev Deletes : SProp 𝓤
     Deletes = C #deletes (fv ∷ order-value order ∷ vint w32 grid ∷ vint w64 size ∷ []) (Yields 𝓤 H D.the-row Fills)
@@ -133,15 +121,15 @@ module _ (κs : Lfts 2) (a : Args self.signature κs) where
         -- [the call; _0; …; _13; …]: local j stands at 1 + 2 · j
         await ! tt $ lends-on ! 3 13 15 refl refl refl refl refl refl (tt, tt) refl refl refl (tt, (tt, (record { fits = are .0 .0 .1 .0 }, tt))) $
         assigns ! (of-opd ! (member ! 9 1 refl refl refl)) (from ! (stop !)) (init ! 17 refl (tt, record { fits = are .1 .1 .1 .0 .0 .1 .0 })) $
-        calls-into ! fm 11 D.the-row deletion (LL.tells D.the-type D′.the-laws) (Fills 𝓤 H C Z)
+        calls-into ! fm 11 D.the-row step-value step-tells (Fills 𝓤 H C Z)
         (and-then ! (at ! 15 refl) (and-then ! (at ! 5 refl) (and-then ! (at ! 7 refl) (and-then ! (at ! 17 refl) (no-more !))))) (λ _. refl)
         (λ d is. LL.lawful D.the-type D′.the-laws 𝓤 H A W .typed d _ is .0) (λ d is.
         lends-on ! 9 21 23 refl refl refl refl refl refl (tt, tt) refl refl refl (tt, (tt, (record { fits = are .1 .1 .1 .0 .0 .1 .0 }, tt))) $
         lends-on ! 3 25 27 refl refl refl refl refl refl (tt, tt) refl refl refl (tt, (tt, (record { fits = are .0 .0 .1 .0 }, tt))) $
-        calls-into ! fm 19 Nothing (λ _. vunit) nothing-tells (λ _. Z (answer (d .answer)))
+        calls-into ! fm 19 Nothing (λ _. vunit) nothing-tells (λ _. Z (answer-value (d .answer)))
         (and-then ! (at ! 23 refl) (and-then ! (at ! 27 refl) (and-then ! (at ! 5 refl) (and-then ! (member ! 11 1 refl refl refl) (no-more !))))) (λ _. refl)
         (λ _ _. (tt, tt)) (λ _ _. assigns ! (of-opd ! (member ! 11 0 refl refl refl)) (from ! (stop !))
-        (init ! 1 refl (EL.lawful S.the-type S′.the-laws 𝓤 H A W tt .typed (d .answer) _ (parts d (deletion d) is .0) .0)) $
+        (init ! 1 refl (EL.lawful S.the-type S′.the-laws 𝓤 H A W tt .typed (d .answer) _ (step-parts d (step-value d) is .0) .0)) $
         returns ! (look ! 1 refl) $ frees-all W ! (_ ∷ []) _ (holding (_ ∷ _ ∷ _ ∷ _ ∷ _ ∷ _ ∷ _ ∷ _ ∷ _ ∷ _ ∷ _ ∷ _ ∷ _ ∷ _ ∷ [])) (done !))))
 
   -- ---- what comes of the calls
@@ -158,8 +146,8 @@ module _ (κs : Lfts 2) (a : Args self.signature κs) where
     Post = Finished params (plain (λ _. S.the-row)) 𝓤 H A (self.clauses 𝓤 H A mem runs) κs qs a tt
 
     -- what `delete_in` says of its result d and of the file g that it leaves
-    abbrev Said : DeletionStep → List ℕ → Type 0
-    Said d g = (deletionSays d, g) ≡ deleteStep order (now file) grid size
+    abbrev Said : StretchStep → List ℕ → Type 0
+    Said d g = (stretchSays d, g) ≡ deleteStep order (now file) grid size
 
     deleted : Triple 𝓤 (C #deletes) (Deleting 𝓤 H A mem runs) → ent 𝓤 (⋆ 𝓤 H A (‵ (File (now file)) ∷ ‵ ftrue ∷ ‵ ftrue ∷ []))
         (H .⇛ (C #deletes (fv ∷ order-value order ∷ vint w32 grid ∷ vint w64 size ∷ [])
@@ -171,18 +159,18 @@ module _ (κs : Lfts 2) (a : Args self.signature κs) where
         (are .1 .0, (are .1 .1 .0, ((refl, are .1 .1 .1 .0 .0 .1 .0), tt)))) (λ ν δ. tt) (λ ν δ. id⊢ 𝓤 _) Said (λ ν δ d e. id⊢ 𝓤 _)
 
     -- at the end: the answer of d, the file g, and the table t
-    exits : (d : DeletionStep) (w : Val) (g : List ℕ) (t : List Extent) → Is D.the-row d (w ∷ []) → Said d g → t ≡ runsOver order g (d .count) (now table)
-        → ent 𝓤 (⋆ 𝓤 H A (‵ (Table t) ∷ ‵ (File g) ∷ [])) (Post (answer (d .answer)))
+    exits : (d : StretchStep) (w : Val) (g : List ℕ) (t : List Extent) → Is D.the-row d (w ∷ []) → Said d g → t ≡ runsOver order g (d .count) (now table)
+        → ent 𝓤 (⋆ 𝓤 H A (‵ (Table t) ∷ ‵ (File g) ∷ [])) (Post (answer-value (d .answer)))
     exits d w g t is eq filled-is =
         qed W (‵ (Table t) ∷ ‵ (File g) ∷ []) ∵ counts X.the-row (named 1) (κs .1 .0) (qs .1 .0) table tv ! t (are .1 .1 .1 .0)
         (λ table-length. move ! (2 ∷ []) $ counts u8 (named 0) (κs .0) (qs .0) file fv ! g (are .0) (λ file-length.
         -- [what the file owns; its token; what the table owns; its token]
-        suffices ! _ (ends-at 𝓤 H A self.ended (stays params) (self.clauses 𝓤 H A mem runs) W ((κs, qs, tt, a, vals), tt) (answer (d .answer)) (d .answer)
+        suffices ! _ (ends-at 𝓤 H A self.ended (stays params) (self.clauses 𝓤 H A mem runs) W ((κs, qs, tt, a, vals), tt) (answer-value (d .answer)) (d .answer)
         (g, (tt, (tt, (t, tt)))) (file-length, (tt, (tt, (table-length, tt))))) $
         says ! (rw filled-is (delete-done order (now file) grid (now table) d g eq)) $
         nothing ! $ move ! (4 ∷ 0 ∷ []) $ join ! $ move ! (2 ∷ 0 ∷ []) $ join ! $ frame ! $ nothing ! $ move ! (2 ∷ 0 ∷ []) $ fjoin ! $ nothing ! $ fjoin ! $
         nothing ! $ fjoin ! $ move ! (1 ∷ 0 ∷ []) $ fjoin ! $ frame ! $
-        owned ! S.the-row (Is S.the-row) (EL.makes S.the-type S′.the-plain 𝓤 H A) (d .answer) _ (parts d w is .0) $ done !))
+        owned ! S.the-row (Is S.the-row) (EL.makes S.the-type S′.the-plain 𝓤 H A) (d .answer) _ (step-parts d w is .0) $ done !))
 
     runs-through : Triple 𝓤 (C #deletes) (Deleting 𝓤 H A mem runs) → Triple 𝓤 (C #fill) (Filling 𝓤 H A mem runs)
         → ent 𝓤 (onEntry 𝓤 H A self.signature κs qs a vals) (H .⇛ (Deletes 𝓤 H C Post))
@@ -196,8 +184,8 @@ module _ (κs : Lfts 2) (a : Args self.signature κs) where
         use1 W (some (λ (g : List ℕ). given (Said d g) (‵ (File g) ⊛ ‵ ftrue))) (id⊢ 𝓤 _) $ pick ! (λ g. learn ! (λ eq. split ! $ keep ! (2 ∷ 0 ∷ []) $
         -- [the table; the file]
         use2 W (later (raw (C #fill _ _))) (fills (named 1) (named 0) (κs .1 .0) (κs .0) (qs .1 .0) (qs .0) table file tv fv 𝓤 H A W C fm (now table) g mem runs order
-        (d .count) known-fill (are .1 .0) (parts d w is .1 .0) (delete-may-fill order (now file) grid (now table) d g eq)) $ await ! tt $ at-once ! $
-        yields ! fm Nothing (λ _. Post (answer (d .answer))) (λ _ _ _.
+        (d .count) known-fill (are .1 .0) (step-parts d w is .1 .0) (delete-may-fill order (now file) grid (now table) d g eq)) $ await ! tt $ at-once ! $
+        yields ! fm Nothing (λ _. Post (answer-value (d .answer))) (λ _ _ _.
         use1 W (some (λ (t : List Extent). given (t ≡ runsOver order g (d .count) (now table)) (‵ (Table t) ⊛ ‵ (File g)))) (id⊢ 𝓤 _) $
         pick ! (λ t. learn ! (λ filled-is. at-once ! $ by ! (exits d w g t is eq filled-is)))))))
 
