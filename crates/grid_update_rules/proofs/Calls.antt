@@ -27,11 +27,11 @@ use Rattle.extent_rules.specs.Steps.{GridAccepted, nthRun, runsOver}
 use Rattle.extent_rules.specs.declared.Extent.{Extent}
 use Rattle.extent_rules.proofs.Runs.{stretches-listed, stretches-few, stretches-more}
 use Rattle.extent_rules.proofs.Fit.{searched-room}
-use Rattle.grid_update_rules.specs.Updates.{addSays, stretchesOf, listed, fileLeft, changed, stretchRules, tellStretches, deleteRules, withoutGrid, deleteGrid, gridWords, addressFor, addRules, withGrid, added, addGrid}
+use Rattle.grid_update_rules.specs.Updates.{addSays, stretchesOf, answerAndTable, fileLeft, changed, stretchRules, tellStretches, deleteRules, withoutGrid, deleteGrid, gridWords, addressFor, addRules, withGrid, added, addGrid}
 use Rattle.grid_update_rules.proofs.Deleted.{delete-passes, deleted-accepted, deleted-count}
 use Rattle.grid_update_rules.proofs.Addition.{AddAsked, AddPasses, add-passes, added-length, added-accepted, added-count, added-starts}
 use Rattle.grid_update_rules.proofs.Exact.{tell-passes}
-use Rattle.grid_update_rules.specs.Steps.{stretchSays, additionSays, counted, stepped, tellStep, deleteStep, planned, addPlan, addStep, Ready}
+use Rattle.grid_update_rules.specs.Steps.{stretchSays, additionSays, countedStretches, stepped, tellStep, deleteStep, planned, addPlan, addStep, Ready}
 use Rattle.grid_update_rules.specs.declared.Added.{Added}
 use Rattle.grid_update_rules.specs.declared.StretchStep.{StretchStep}
 use Rattle.grid_update_rules.specs.declared.AddPlan.{AddPlan}
@@ -105,7 +105,7 @@ module _ (o : Order) (f : List ℕ) (t : List Extent) (d : StretchStep) (e : str
   tells =
       let v : Verdict = firstFault (stretchRules o f (length t)) in
       subst (Carried v (λ count. count) o f f (length t))
-      (ap (λ (g : List ℕ). (counted v (λ count. count) o f, g)) (file-same v f) ∙ ap (λ (s : Answer ℕ × ℕ). (s, f)) (sym e))
+      (ap (λ (g : List ℕ). (countedStretches v (λ count. count) o f, g)) (file-same v f) ∙ ap (λ (s : Answer ℕ × ℕ). (s, f)) (sym e))
       (carried v (λ count. count) o f f (length t) (tell-changed o f (length t)))
 
   -- the places that are to be filled are in the table, and the file is accepted if there are any
@@ -276,7 +276,7 @@ changed-tells : {Value : Type 0} (v : Verdict) (value : ℕ → Value) (stretche
 unfolding tellStretches
 changed-tells Pass value stretches back o f g t x h e =
     let c : Changed o f g (length t) = h refl in
-    ap (λ (v : Verdict). listed v (λ count. count) o g t) (tell-passes o g (length t) .1 (c .accepted, c .table))
+    ap (λ (v : Verdict). answerAndTable v (λ count. count) o g t) (tell-passes o g (length t) .1 (c .accepted, c .table))
     ∙ ap (λ (n : ℕ). (gives n, over (stretchesOf o g) t)) (sym (back (length (stretchesOf o g))) ∙ ap stretches (gives-same e))
 changed-tells (Fault r) value stretches back o f g t x h e = gives-refuses (sym e)
 
@@ -303,14 +303,14 @@ unfolding tellStretches
 tell-again o f t = step (firstFault (stretchRules o f (length t))) refl
   where
     left : Verdict → List Extent
-    left v = listed v (λ count. count) o f t .1
+    left v = answerAndTable v (λ count. count) o f t .1
 
     step : (v : Verdict) → firstFault (stretchRules o f (length t)) ≡ v
-        → listed (firstFault (stretchRules o f (length (left v)))) (λ count. count) o f (left v) ≡ listed v (λ count. count) o f t
+        → answerAndTable (firstFault (stretchRules o f (length (left v)))) (λ count. count) o f (left v) ≡ answerAndTable v (λ count. count) o f t
     step Pass e =
         let l : List Extent = stretchesOf o f in
         let room : length l ≤ length t = table-room o f (length t) (tell-passes o f (length t) .0 e .1) in
-        ap (λ (n : ℕ). listed (firstFault (stretchRules o f n)) (λ count. count) o f (over l t)) (length-over l t room)
-        ∙ ap (λ (v : Verdict). listed v (λ count. count) o f (over l t)) e
+        ap (λ (n : ℕ). answerAndTable (firstFault (stretchRules o f n)) (λ count. count) o f (over l t)) (length-over l t room)
+        ∙ ap (λ (v : Verdict). answerAndTable v (λ count. count) o f (over l t)) e
         ∙ ap (λ (u : List Extent). (gives (length l), u)) (over-again l l t (omega arith))
-    step (Fault r) e = ap (λ (v : Verdict). listed v (λ count. count) o f t) e
+    step (Fault r) e = ap (λ (v : Verdict). answerAndTable v (λ count. count) o f t) e

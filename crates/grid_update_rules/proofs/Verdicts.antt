@@ -19,7 +19,7 @@ use Rattle.grid_rules.specs.Rules.{emptySlot, gridFileRules, wantedRules}
 use Rattle.extent_rules.specs.Steps.{GridAccepted, survey}
 use Rattle.extent_rules.specs.declared.Survey.{Survey}
 use Rattle.grid_update_rules.specs.Updates.{tableRule, stretchRules, deleteOwn, deleteRules, addOwn, addRules}
-use Rattle.grid_update_rules.specs.Steps.{counted, stepped}
+use Rattle.grid_update_rules.specs.Steps.{countedStretches, stepped}
 
 -- ---- telling the free stretches
 
@@ -86,12 +86,12 @@ module _ (o : Order) (f : List ℕ) (headers rows columns values size : ℕ) whe
 
 module _ {Value : Type 0} (v : Verdict) (value : ℕ → Value) (o : Order) (g : List ℕ) where
   -- where they pass, for the survey of a file
-  pub counted-pass : v ≡ Pass → (s : Survey) → s ≡ survey o g → (gives (value (s .count)), s .count) ≡ counted v value o g
+  pub counted-pass : v ≡ Pass → (s : Survey) → s ≡ survey o g → (gives (value (s .count)), s .count) ≡ countedStretches v value o g
   unfolding survey
   counted-pass e s surveyed = rw (e, surveyed)
 
   -- and where they do not
-  pub counted-fault : (r : Refusal) → v ≡ Fault r → (refuses (r .number) (r .place), 0) ≡ counted v value o g
+  pub counted-fault : (r : Refusal) → v ≡ Fault r → (refuses (r .number) (r .place), 0) ≡ countedStretches v value o g
   counted-fault r e = rw e
 
 module _ {Value : Type 0} (v : Verdict) (value : ℕ → Value) (o : Order) (f g : List ℕ) where

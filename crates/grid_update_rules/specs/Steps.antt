@@ -31,17 +31,17 @@ abbrev pub additionSays : AdditionStep → Answer Added × ℕ
 additionSays a = (addSays (a .answer), a .count)
 
 -- what a step says of the free stretches of a file, by the verdict of its call's rules: the value, made of their number, and as many places; or the refusal, and no place
-abbrev pub counted : {Value : Type 0} → Verdict → (ℕ → Value) → Order → List ℕ → Answer Value × ℕ
-counted Pass value o f = (gives (value (length (stretchesOf o f))), length (stretchesOf o f))
-counted (Fault r) value o f = (refuses (r .number) (r .place), 0)
+abbrev pub countedStretches : {Value : Type 0} → Verdict → (ℕ → Value) → Order → List ℕ → Answer Value × ℕ
+countedStretches Pass value o f = (gives (value (length (stretchesOf o f))), length (stretchesOf o f))
+countedStretches (Fault r) value o f = (refuses (r .number) (r .place), 0)
 
 -- what a step that changes a file f into g says, of the free stretches of g, and the file that it leaves
 abbrev pub stepped : {Value : Type 0} → Verdict → (ℕ → Value) → Order → List ℕ → List ℕ → (Answer Value × ℕ) × List ℕ
-stepped v value o f g = (counted v value o g, fileLeft v f g)
+stepped v value o f g = (countedStretches v value o g, fileLeft v f g)
 
 -- what counting the free stretches says, with a table of `size` pairs
 unfoldable pub tellStep : Order → List ℕ → ℕ → Answer ℕ × ℕ
-tellStep o f size = counted (firstFault (stretchRules o f size)) (λ count. count) o f
+tellStep o f size = countedStretches (firstFault (stretchRules o f size)) (λ count. count) o f
 
 -- what deleting in the file says, with a table of `size` pairs, and the file that it leaves
 unfoldable pub deleteStep : Order → List ℕ → ℕ → ℕ → (Answer ℕ × ℕ) × List ℕ

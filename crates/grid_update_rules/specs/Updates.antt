@@ -127,9 +127,9 @@ addRules o f headers rows columns values size = gridFileRules (length f) (wordAt
 
 -- What a call answers of the free stretches of a file, and the table that it leaves, by the verdict of its rules: the value, made of their number, and the free
 -- stretches in the first places of the table t, with "places past them stay"; or the refusal, and the table as it was.
-abbrev pub listed : {Value : Type 0} → Verdict → (ℕ → Value) → Order → List ℕ → List Extent → Answer Value × List Extent
-listed Pass value o f t = (gives (value (length (stretchesOf o f))), over (stretchesOf o f) t)
-listed (Fault r) value o f t = (refuses (r .number) (r .place), t)
+abbrev pub answerAndTable : {Value : Type 0} → Verdict → (ℕ → Value) → Order → List ℕ → List Extent → Answer Value × List Extent
+answerAndTable Pass value o f t = (gives (value (length (stretchesOf o f))), over (stretchesOf o f) t)
+answerAndTable (Fault r) value o f t = (refuses (r .number) (r .place), t)
 
 -- the file that a call leaves, by the verdict of its rules: the changed file g, or the file f as it was
 abbrev pub fileLeft : Verdict → List ℕ → List ℕ → List ℕ
@@ -138,7 +138,7 @@ fileLeft (Fault r) f g = f
 
 -- what a call that changes a file f into g answers, of the free stretches of g, and the file and the table that it leaves
 abbrev pub changed : {Value : Type 0} → Verdict → (ℕ → Value) → Order → List ℕ → List ℕ → List Extent → Answer Value × (List ℕ × List Extent)
-changed v value o f g t = (listed v value o g t .0, (fileLeft v f g, listed v value o g t .1))
+changed v value o f g t = (answerAndTable v value o g t .0, (fileLeft v f g, answerAndTable v value o g t .1))
 
 -- what deleting the grid of a number answers, which is the number of free stretches, and the file and the table that it leaves
 unfoldable pub deleteGrid : Order → List ℕ → ℕ → List Extent → Answer ℕ × (List ℕ × List Extent)
@@ -157,4 +157,4 @@ stretchRules o f size = gridFileRules (length f) (wordAt o f) ++ tableRule (word
 
 -- what telling the free stretches of a file that stays as it is answers, which is their number, and the table that it leaves, in whose first places they stand
 unfoldable pub tellStretches : Order → List ℕ → List Extent → Answer ℕ × List Extent
-tellStretches o f t = listed (firstFault (stretchRules o f (length t))) (λ count. count) o f t
+tellStretches o f t = answerAndTable (firstFault (stretchRules o f (length t))) (λ count. count) o f t
