@@ -172,7 +172,8 @@ module _ (κs : Lfts 2) (a : Args self.signature κs) where
         -- [what the table owns; its token; the file's token]
         suffices ! _ (ends-at 𝓤 H A self.ended (stays params) (self.clauses 𝓤 H A mem run) W ((κs, qs, tt, a, vals), tt) (extent-value e) e
         (zs, (tt, (tt, (tt, (tt, tt))))) (len, (tt, (tt, (tt, (tt, tt)))))) $
-        says ! (ap (λ (x : Extent). (x, zs)) (found ∙ ap (searched zs need) (lesser-count n (length zs) (subst (λ (m : ℕ). n ≤ m) (sym len) (asked .0)))) ∙ ap (λ (l : List Extent). (searched l need n, l)) eq) $
+        says ! (ap (λ (x : Extent). (x, zs)) (found ∙ ap (searched zs need) (lesser-count n (length zs) (subst (λ (m : ℕ). n ≤ m) (sym len) (asked .0))))
+        ∙ ap (λ (l : List Extent). (searched l need n, l)) eq) $
         move ! (1 ∷ 2 ∷ []) $ join ! $ frame ! $ nothing ! $ nothing ! $ fjoin ! $ nothing ! $ fjoin ! $ nothing ! $ fjoin ! $ nothing ! $ fjoin ! $
         move ! (1 ∷ 0 ∷ []) $ fjoin ! $ frame ! $ owned ! X.the-row (Is X.the-row) (makes 𝓤 H A) e _ (extent-told e u ie) $ done !)
 
