@@ -78,7 +78,7 @@ use Rattle.walks.proofs.LentCalls.{lends-mut, lends-shr, lends-both}
 use Rattle.walks.proofs.Locals.{env, holding, starts, frees-all, at}
 use Rattle.walks.proofs.Proved.{Finished, proved}
 use Rattle.walks.proofs.Slices.{member, lends-on}
-use Rattle.extent_table_steps.proofs.Filling.{Filling, fills}
+use Rattle.grid_updates.proofs.Filling.{Filling, fills}
 use Rattle.grid_updates.proofs.add as self
 use Rattle.grid_updates.proofs.add.Code as code
 use Rattle.grid_updates.proofs.add.Key as key

@@ -63,7 +63,7 @@ use Rattle.walks.proofs.LentCalls.{lends-mut}
 use Rattle.walks.proofs.Locals.{env, holding, starts, frees-all, at}
 use Rattle.walks.proofs.Proved.{Finished, proved}
 use Rattle.walks.proofs.Slices.{member, lends-on}
-use Rattle.extent_table_steps.proofs.Filling.{Filling, fills}
+use Rattle.grid_updates.proofs.Filling.{Filling, fills}
 use Rattle.grid_updates.proofs.Steps.{step-value, step-tells, answer-value, step-parts}
 use Rattle.grid_updates.proofs.delete as self
 use Rattle.grid_updates.proofs.delete.Code as code

@@ -45,7 +45,7 @@ use Rattle.extent_rules.specs.Steps.{runsOver}
 use Rattle.extent_rules.specs.declared.Extent.{Extent}
 use Rattle.extent_rules.proofs.Extent as X
 use Rattle.extent_table_steps.proofs.Extents.{order-value, makes-order, an-order}
-use Rattle.extent_table_steps.proofs.Filling.{Filling, fills-from}
+use Rattle.grid_updates.proofs.Filling.{Filling, fills-from}
 use Rattle.extent_table_steps.proofs.fill.Met as fill-met
 use Rattle.extent_table_steps.proofs.fill.Symbol as fill-def
 use Rattle.extent_table_steps.proofs.fill.Symbol.{name as #fill}

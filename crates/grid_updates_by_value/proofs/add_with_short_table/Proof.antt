@@ -113,8 +113,9 @@ module _ {M : Type 1} (𝓤 : URA M) (H : Heap 𝓤) (A : Atoms 𝓤) (mem : Mem
 
     module _ (W : Given 𝓤 H A) (b : ℕ) where
       lends : Lends 𝓤 H A call y (lent-table κs a are) b (to b)
-      lends ν γ = enters-with 𝓤 H A W (tokens-of 3 κs qs) (owned-of (rows κs first-params) (first κs a) (first-vals κs a)) (OwnTable 4 .own (a .1 .1 .1 .1 .1 .1 .0) (at κs a .1 .1 .1 .1 .1 .1 .0) ∷ []) (flft (ν ∷ []) fullShare)
-          (Borrowed b ν γ .own (lent-at b γ (a .1 .1 .1 .1 .1 .1 .0)) (sliceVal (b, 0) 4 ∷ []))
+      lends ν γ =
+          enters-with 𝓤 H A W (tokens-of 3 κs qs) (owned-of (rows κs first-params) (first κs a) (first-vals κs a)) (OwnTable 4 .own (a .1 .1 .1 .1 .1 .1 .0) (at κs a .1 .1 .1 .1 .1 .1 .0) ∷ [])
+          (flft (ν ∷ []) fullShare) (Borrowed b ν γ .own (lent-at b γ (a .1 .1 .1 .1 .1 .1 .0)) (sliceVal (b, 0) 4 ∷ []))
 
       -- what the callee ensures, of an answer and of last values, is what the function does, of these and of the last table
       said : (ν : ℕ) (γ : GName) (r : short-addition .answer .Denot) (ws : Lasts callee.ended (λs b ν γ) (args b ν γ))
@@ -153,7 +154,9 @@ module _ {M : Type 1} (𝓤 : URA M) (H : Heap 𝓤) (A : Atoms 𝓤) (W : Given
       -- the table is lent
       move ! (0 ∷ 17 ∷ []) $ use2 W (later (raw (C callee-def.name (passed κs a b) (Landed 𝓤 H A short-addition b K)))) (lent-out b) $ await ! tt $
       -- [the call; _0; …; the end of _8; _9; …]: a local j behind _8 stands at 2 · j
-      calls ! fm (λ w. raw (Landed 𝓤 H A short-addition b K w)) (and-then ! (at-local ! 22 refl) (and-then ! (at-local ! 5 refl) (and-then ! (at-local ! 7 refl) (and-then ! (at-local ! 9 refl) (and-then ! (at-local ! 11 refl) (and-then ! (at-local ! 13 refl) (and-then ! (at-local ! 26 refl) (no-more !)))))))) (λ w.
+      calls ! fm (λ w. raw (Landed 𝓤 H A short-addition b K w))
+      (and-then ! (at-local ! 22 refl) (and-then ! (at-local ! 5 refl) (and-then ! (at-local ! 7 refl) (and-then ! (at-local ! 9 refl)
+      (and-then ! (at-local ! 11 refl) (and-then ! (at-local ! 13 refl) (and-then ! (at-local ! 26 refl) (no-more !)))))))) (λ w.
       use1 W (later (some (λ (v : Val). given (Types 𝓤 H A short-addition w v) (‵ (fat fullShare (τ 4) b 0 v) ⊛ raw (K (pair w v)))))) (id⊢ 𝓤 _) $
       await ! tt $ pick ! (λ v. learn ! (λ ts. split ! $ move ! (1 ∷ 2 ∷ 3 ∷ 4 ∷ 5 ∷ 6 ∷ 7 ∷ 8 ∷ 9 ∷ 10 ∷ 11 ∷ 12 ∷ 13 ∷ 14 ∷ 15 ∷ 16 ∷ 17 ∷ []) $
       -- [what is owed; _0; …]: local j stands at 1 + 2 · j

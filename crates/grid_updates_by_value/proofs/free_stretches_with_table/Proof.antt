@@ -100,8 +100,9 @@ module _ {M : Type 1} (𝓤 : URA M) (H : Heap 𝓤) (A : Atoms 𝓤) (mem : Mem
 
     module _ (W : Given 𝓤 H A) (b : ℕ) where
       lends : Lends 𝓤 H A call y fresh-table b (to b)
-      lends ν γ = enters-with 𝓤 H A W (tokens-of 1 κs qs) (owned-of (rows κs params) a (at κs a)) [] (flft (ν ∷ []) fullShare)
-          (Borrowed b ν γ .own (lent-at b γ (replicate 1025 noWords)) (sliceVal (b, 0) 1025 ∷ []))
+      lends ν γ =
+          enters-with 𝓤 H A W (tokens-of 1 κs qs) (owned-of (rows κs params) a (at κs a)) []
+          (flft (ν ∷ []) fullShare) (Borrowed b ν γ .own (lent-at b γ (replicate 1025 noWords)) (sliceVal (b, 0) 1025 ∷ []))
 
       -- what the callee ensures, of an answer and of last values, is what the function does, of these and of the last table
       said : (ν : ℕ) (γ : GName) (r : stretch-table .answer .Denot) (ws : Lasts callee.ended (λs b ν γ) (args b ν γ))
@@ -140,7 +141,8 @@ module _ {M : Type 1} (𝓤 : URA M) (H : Heap 𝓤) (A : Atoms 𝓤) (W : Given
       -- the table is lent
       move ! (0 ∷ 7 ∷ []) $ use2 W (later (raw (C callee-def.name (passed κs a b) (Landed 𝓤 H A stretch-table b K)))) (lent-out b) $ await ! tt $
       -- [the call; _0; …; the end of _3; _4; …]: a local j behind _3 stands at 2 · j
-      calls ! fm (λ w. raw (Landed 𝓤 H A stretch-table b K w)) (and-then ! (at-local ! 3 refl) (and-then ! (at-local ! 5 refl) (and-then ! (at-local ! 14 refl) (no-more !)))) (λ w.
+      calls ! fm (λ w. raw (Landed 𝓤 H A stretch-table b K w))
+      (and-then ! (at-local ! 3 refl) (and-then ! (at-local ! 5 refl) (and-then ! (at-local ! 14 refl) (no-more !)))) (λ w.
       use1 W (later (some (λ (v : Val). given (Types 𝓤 H A stretch-table w v) (‵ (fat fullShare (τ 1025) b 0 v) ⊛ raw (K (pair w v)))))) (id⊢ 𝓤 _) $
       await ! tt $ pick ! (λ v. learn ! (λ ts. split ! $ move ! (1 ∷ 2 ∷ 3 ∷ 4 ∷ 5 ∷ 6 ∷ 7 ∷ []) $
       -- [what is owed; _0; …]: local j stands at 1 + 2 · j
