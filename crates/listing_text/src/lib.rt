@@ -10,62 +10,17 @@ use listing_rules::Text;
 use refusal_rules::Refusal;
 use refusal_rules::SHORT_OUTPUT;
 use refusal_rules::SizeAnswer;
+use texts::append_bytes;
+use texts::append_number;
+use texts::append_two;
 ghost use mathlib.Core.Path.{_≡_};
 ghost use Prim.Native.Nat.{_≤_};
 ghost use lib.ListN.{length, take, getD};
 ghost use Rattle.lists.specs.Lists.{listOf};
 ghost use Rattle.refusal_rules.specs.Answers.{gives, sizeSays};
 ghost use Rattle.copy_rules.specs.Runs.{copied};
-ghost use Rattle.listing_rules.specs.Page.{labelled, orderLine, layoutLines, blockName, blockLine, blockLines, listingText};
-ghost use Rattle.listing_rules.specs.Steps.{emptyText, appendByte, appendBytes};
-
-// ---- bytes and numbers
-
-// A text with a byte behind it, which is left out where there is no room.
-fn append_byte(text: Text, byte: u8) -> Text
-    ensures { λ r. ⌜ r ≡ appendByte text byte ⌝ }
-{
-    let at = text.count;
-    let mut bytes = text.bytes;
-    if at < 512 {
-        bytes[at] = byte;
-        Text {
-            count: at + 1,
-            bytes: bytes,
-        }
-    } else {
-        text
-    }
-}
-
-// A text with bytes behind it.
-fn append_bytes(text: Text, more: &[u8]) -> Text
-    ensures { λ r. ⌜ r ≡ appendBytes text (now (more .entry)) ⌝ }
-{
-    let mut t = text;
-    let mut i = 0;
-    while i < more.len() {
-        t = append_byte(t, more[i]);
-        i += 1;
-    }
-    t
-}
-
-// A text with a word behind it, and a number behind the word.
-fn append_number(text: Text, word: &[u8], n: u64) -> Text
-    ensures { λ r. ⌜ r ≡ appendBytes text (labelled (now (word .entry)) n) ⌝ }
-{
-    let mut digits = [0u8; 20];
-    let count = io::decimal(n, &mut digits);
-    append_bytes(append_bytes(text, word), &digits[..count])
-}
-
-// A text with two numbers behind it, each behind a word.
-fn append_two(text: Text, word: &[u8], n: u64, other: &[u8], m: u64) -> Text
-    ensures { λ r. ⌜ r ≡ appendBytes (appendBytes text (labelled (now (word .entry)) n)) (labelled (now (other .entry)) m) ⌝ }
-{
-    append_number(append_number(text, word, n), other, m)
-}
+ghost use Rattle.listing_rules.specs.Page.{orderLine, layoutLines, blockName, blockLine, blockLines, listingText};
+ghost use Rattle.listing_rules.specs.Steps.{emptyText, appendBytes};
 
 // ---- the lines
 

@@ -1,4 +1,4 @@
--- `listing_text::append_bytes` meets its contract: the text with the bytes from an index on is the text with all of them.
+-- `texts::append_bytes` meets its contract: the text with the bytes from an index on is the text with all of them.
 -- Assumes nothing.
 use mathlib.Core.Path.{_≡_, refl, _∙_}
 use Prim.Native.Nat.{_-_, _≤_}
@@ -8,8 +8,8 @@ use lib.ListN.{length, drop}
 use Rattle.listing_rules.specs.Steps.{appendBytes}
 use Rattle.listing_rules.proofs.Appending.{append-next, append-none}
 use borrow.Author.Needs.{needs}
-use Rattle.listing_text.proofs.append_bytes.Statement.{statement}
-use Rattle.listing_text.proofs.append_bytes.Tie as tie
+use Rattle.texts.proofs.append_bytes.Statement.{statement}
+use Rattle.texts.proofs.append_bytes.Tie as tie
 
 abbrev Inv-loop : tie.InvT-loop
 Inv-loop more t₀ i₀ t i = (i ≤ length more) × (appendBytes t (drop i more) ≡ appendBytes t₀ more)

@@ -1,8 +1,8 @@
--- `listing_text::append_two` meets its contract: one number after another.
+-- `texts::append_two` meets its contract: one number after another.
 -- Assumes nothing.
 use borrow.Author.Needs.{needs}
-use Rattle.listing_text.proofs.append_two.Statement.{statement}
-use Rattle.listing_text.proofs.append_two.Tie as tie
+use Rattle.texts.proofs.append_two.Statement.{statement}
+use Rattle.texts.proofs.append_two.Tie as tie
 
 append-number-requires : tie.Need-append-number-requires
 append-number-requires c κs = search needs

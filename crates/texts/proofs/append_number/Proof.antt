@@ -1,14 +1,14 @@
--- `listing_text::append_number` meets its contract: the kit's digits are those of the definition.
+-- `texts::append_number` meets its contract: the kit's digits are those of the definition.
 -- Assumes nothing.
 use mathlib.Core.Path.{sym, ap, _∙_}
 use native.Mathlib.Omega.{arith}
 use Rattle.listing_rules.specs.Page.{labelled}
 use Rattle.listing_rules.specs.Steps.{appendBytes}
 use Rattle.listing_rules.proofs.Appending.{append-more}
-use Rattle.listing_text.proofs.Digits.{fewest-decimal}
+use Rattle.texts.proofs.Digits.{fewest-decimal}
 use borrow.Author.Needs.{needs}
-use Rattle.listing_text.proofs.append_number.Statement.{statement}
-use Rattle.listing_text.proofs.append_number.Tie as tie
+use Rattle.texts.proofs.append_number.Statement.{statement}
+use Rattle.texts.proofs.append_number.Tie as tie
 
 decimal-requires : tie.Need-decimal-requires
 decimal-requires c κs = search needs

@@ -1,10 +1,10 @@
--- `listing_text::append_byte` meets its contract: the byte stands behind the others where there is room for it.
+-- `texts::append_byte` meets its contract: the byte stands behind the others where there is room for it.
 -- Assumes nothing.
 use borrow.Author.Tests.{lt-ltb, le-ltb}
 use Rattle.listing_rules.specs.Steps.{appendByte}
 use borrow.Author.Needs.{needs}
-use Rattle.listing_text.proofs.append_byte.Statement.{statement}
-use Rattle.listing_text.proofs.append_byte.Tie as tie
+use Rattle.texts.proofs.append_byte.Statement.{statement}
+use Rattle.texts.proofs.append_byte.Tie as tie
 
 array-write-bytes : tie.Need-array-write-bytes
 array-write-bytes c = search needs
