@@ -21,7 +21,7 @@ use Rattle.layout_rules.specs.Found.{areaOf}
 use Rattle.layout_rules.specs.Layouts.{Fresh}
 use Rattle.layout_rules.specs.declared.Layout.{Layout}
 use Rattle.layout_rules.specs.declared.Layout.the-variants.{Area}
-use Rattle.layout_rules.proofs.OneKind.{area-found, area-known, area-nine}
+use Rattle.layout_rules.proofs.OneKind.{area-then, area-known, area-nine}
 use Rattle.span_rules.specs.Spans.{span, Inside}
 use Rattle.span_rules.specs.declared.Span.{Span}
 use Rattle.area_part_rules.specs.Blocks.{blockRules, blockOf, blockSpan}
@@ -61,16 +61,14 @@ pub record IsBlockSpan (f : List ℕ) (l : Layout) (b : Block) (s : Span) : Type
 
 -- a span of a block is given exactly where it is that
 pub block-exactly : (f : List ℕ) (l : Layout) (b : Block) (s : Span) → (blockSpan f l b ≡ gives s) ↔ IsBlockSpan f l b s
-block-exactly f l b s = (
-  λ e.
-      let (a, found, given) = then-gives (λ a. blockOf a b) (areaOf f l) s .0 e in
-      let (layout, opens) = area-found f l a .0 found in
-      let (here, same) = block-here a b s .0 given in
-      record { area = a; layout = layout; opens = opens; present = here; same = same },
-  λ x.
-      then-gives (λ a. blockOf a b) (areaOf f l) s .1
-      (x .area, area-found f l (x .area) .1 (x .layout, x .opens), block-here (x .area) b s .1 (x .present, x .same)),
-)
+block-exactly f l b s =
+    let y = area-then f l (λ a. blockOf a b) s in (
+      λ e.
+          let (a, (layout, opens), given) = y .0 e in
+          let (here, same) = block-here a b s .0 given in
+          record { area = a; layout = layout; opens = opens; present = here; same = same },
+      λ x. y .1 (x .area, (x .layout, x .opens), block-here (x .area) b s .1 (x .present, x .same)),
+    )
 
 -- a span that is given is inside, where every one that may be given is
 inside-given : (f : List ℕ) (x : Answer Span) → ((s : Span) → x ≡ gives s → s .start + s .length ≤ length f) → Inside f x

@@ -31,7 +31,7 @@ use Rattle.layout_rules.specs.Found.{areaOf}
 use Rattle.layout_rules.specs.Layouts.{Fresh}
 use Rattle.layout_rules.specs.declared.Layout.{Layout}
 use Rattle.layout_rules.specs.declared.Layout.the-variants.{Area}
-use Rattle.layout_rules.proofs.OneKind.{area-found, area-nine, area-ten}
+use Rattle.layout_rules.proofs.OneKind.{area-then, area-nine, area-ten}
 use Rattle.area_rules.specs.Bands.{secondMap, setBelow, slotOf}
 use Rattle.area_rules.specs.declared.SlotOrBand.{SlotOrBand}
 use Rattle.area_rules.specs.declared.SlotOrBand.the-variants.{Band}
@@ -135,20 +135,16 @@ pub record IsBandSlot (f : List ℕ) (l : Layout) (b s : ℕ) : Type 0 where
 
 -- a slot is given exactly where it is that
 pub band-slot-in-exactly : (f : List ℕ) (l : Layout) (b s : ℕ) → (bandSlotIn f l b ≡ gives s) ↔ IsBandSlot f l b s
-band-slot-in-exactly f l b s = (
-  λ e.
-      let (a, found, given) = then-gives (λ a. slotOf a (Band b)) (areaOf f l) s .0 e in
-      let (layout, opens) = area-found f l a .0 found in
-      let (usable, (has, same)) = band-slot-exactly (a .map) (a .map2) (a .bands) b s .0 given in
-      record { area = a; layout = layout; opens = opens; usable = usable; has = has; same = same },
-  λ x.
-      let a : AreaLayout = x .area in
-      then-gives (λ a. slotOf a (Band b)) (areaOf f l) s .1 (
-        a,
-        area-found f l a .1 (x .layout, x .opens),
-        band-slot-exactly (a .map) (a .map2) (a .bands) b s .1 (x .usable, (x .has, x .same)),
-      ),
-)
+band-slot-in-exactly f l b s =
+    let y = area-then f l (λ a. slotOf a (Band b)) s in (
+      λ e.
+          let (a, (layout, opens), given) = y .0 e in
+          let (usable, (has, same)) = band-slot-exactly (a .map) (a .map2) (a .bands) b s .0 given in
+          record { area = a; layout = layout; opens = opens; usable = usable; has = has; same = same },
+      λ x.
+          let a : AreaLayout = x .area in
+          y .1 (a, (x .layout, x .opens), band-slot-exactly (a .map) (a .map2) (a .bands) b s .1 (x .usable, (x .has, x .same))),
+    )
 
 -- ---- stale layouts
 

@@ -7,7 +7,7 @@ use Prim.Native.Nat.{ℕ, _+_, _≤_, _<_}
 use native.Mathlib.Omega.{arith}
 use Rattle.refusal_rules.specs.Answers.{gives, refuses}
 use Rattle.refusal_rules.specs.Rules.{tabled, Hold}
-use Rattle.refusal_rules.proofs.Answers.{then-gives, value-exactly, never-refused}
+use Rattle.refusal_rules.proofs.Answers.{value-exactly, never-refused}
 use Rattle.refusal_rules.proofs.Exactness.{lt-exactly, eq-exactly, not-exactly}
 use Rattle.refusal_rules.proofs.Tables.{also}
 use Rattle.area_rules.specs.Opening.{openArea}
@@ -16,11 +16,10 @@ use Rattle.area_rules.specs.Blocks.{regionStart, regionLength}
 use Rattle.area_rules.specs.declared.AreaLayout.{AreaLayout}
 use Rattle.area_rules.specs.declared.Region.{Region}
 use Rattle.area_rules.proofs.Regions.{region-inside}
-use Rattle.layout_rules.specs.Found.{areaOf}
 use Rattle.layout_rules.specs.Layouts.{Fresh}
 use Rattle.layout_rules.specs.declared.Layout.{Layout}
 use Rattle.layout_rules.specs.declared.Layout.the-variants.{Area}
-use Rattle.layout_rules.proofs.OneKind.{area-found, area-nine}
+use Rattle.layout_rules.proofs.OneKind.{area-then, area-nine}
 use Rattle.span_rules.specs.Spans.{span, Inside}
 use Rattle.span_rules.specs.declared.Span.{Span}
 use Rattle.area_part_rules.proofs.Blocks.{found-inside}
@@ -66,16 +65,14 @@ pub record IsRegionSpan (f : List ℕ) (l : Layout) (i : ℕ) (r : Region) (s : 
 
 -- a span of a region is given exactly where it is that
 pub region-exactly : (f : List ℕ) (l : Layout) (i : ℕ) (r : Region) (s : Span) → (regionSpan f l i r ≡ gives s) ↔ IsRegionSpan f l i r s
-region-exactly f l i r s = (
-  λ e.
-      let (a, found, given) = then-gives (λ a. regionOf a i r) (areaOf f l) s .0 e in
-      let (layout, opens) = area-found f l a .0 found in
-      let ((line, some), same) = region-here a i r s .0 given in
-      record { area = a; layout = layout; opens = opens; line = line; some = some; same = same },
-  λ x.
-      then-gives (λ a. regionOf a i r) (areaOf f l) s .1
-      (x .area, area-found f l (x .area) .1 (x .layout, x .opens), region-here (x .area) i r s .1 ((x .line, x .some), x .same)),
-)
+region-exactly f l i r s =
+    let y = area-then f l (λ a. regionOf a i r) s in (
+      λ e.
+          let (a, (layout, opens), given) = y .0 e in
+          let ((line, some), same) = region-here a i r s .0 given in
+          record { area = a; layout = layout; opens = opens; line = line; some = some; same = same },
+      λ x. y .1 (x .area, (x .layout, x .opens), region-here (x .area) i r s .1 ((x .line, x .some), x .same)),
+    )
 
 -- one that is handed back is inside the file
 pub region-in-file : (f : List ℕ) (l : Layout) (i : ℕ) (r : Region) → Inside f (regionSpan f l i r)

@@ -13,7 +13,7 @@ use refusal_rules::PlaceAnswer;
 use refusal_rules::SizeAnswer;
 use refusal_rules::Verdict;
 ghost use mathlib.Core.Path.{_≡_};
-ghost use Prim.Native.Nat.{_*_, _≤_};
+ghost use Prim.Native.Nat.{_≤_};
 ghost use Rattle.refusal_rules.specs.Answers.{sizeSays, placeSays};
 ghost use Rattle.refusal_rules.specs.Rules.{firstFault};
 ghost use Rattle.area_rules.specs.Bounds.{areaBounded, AreaBounds};
@@ -49,21 +49,13 @@ pub fn line_length(layout: AreaLayout) -> SizeAnswer
     }
 }
 
-// The bytes of the lines before a line.
-fn lines_before(layout: AreaLayout, line: u32) -> usize
-    requires { ⌜ AreaBounds layout × (line ≤ layout .lines) ⌝ }
-    ensures { λ r. ⌜ r ≡ line * lineLengthIn layout ⌝ }
-{
-    line as usize * line_length_in(layout)
-}
-
-// How many bytes DATA of an AREA file has: those of all its lines. Refused with 7 where the layout is above the bounds that opening sets.
+// How many bytes DATA of an AREA file has: those of all its lines. Refused as `line_length`.
 pub fn data_length(layout: AreaLayout) -> SizeAnswer
     ensures { λ r. ⌜ sizeSays r ≡ lengthOfData layout ⌝ }
 {
-    match check(Verdict::Pass, area_bounded(layout), NO_SUCH, 0) {
-        Verdict::Fault(refusal) => SizeAnswer::Refused(refusal),
-        Verdict::Pass => SizeAnswer::Value(lines_before(layout, layout.lines)),
+    match line_length(layout) {
+        SizeAnswer::Refused(refusal) => SizeAnswer::Refused(refusal),
+        SizeAnswer::Value(line) => SizeAnswer::Value(layout.lines as usize * line),
     }
 }
 
@@ -72,7 +64,7 @@ fn line_at(layout: AreaLayout, line: u32) -> usize
     requires { ⌜ AreaBounds layout × (line ≤ layout .lines) ⌝ }
     ensures { λ r. ⌜ r ≡ lineStart layout line ⌝ }
 {
-    layout.data_start as usize + lines_before(layout, line)
+    layout.data_start as usize + line as usize * line_length_in(layout)
 }
 
 // The byte at which a line of an AREA file begins, with its prefix, the line counted from 0. Refused with 7 where there is no such line, or the layout is above the

@@ -1,36 +1,42 @@
 -- Where the lines and samples of an accepted AREA file lie: at the paper's addresses. A layout that opening gives is within bounds, so the test of bounds never
 -- refuses it. Refusal 9 is left to layouts that are stale.
 -- Assumes nothing.
-use mathlib.Core.Path.{_≡_, refl}
+use mathlib.Core.Path.{_≡_, refl, ap}
 use mathlib.Core.Bool.{false}
 use mathlib.Core.Logic.{_↔_}
 use mathlib.Core.List.{[], _∷_}
 use Prim.Native.Nat.{ℕ, _*_, _<_}
-use Rattle.refusal_rules.specs.Answers.{gives, refuses, andThen, place}
+use Rattle.refusal_rules.specs.Answers.{gives, refuses, mapped, andThen, place}
 use Rattle.refusal_rules.specs.Rules.{rule, firstFault, first, judge}
 use Rattle.refusal_rules.specs.declared.Place.{Place}
 use Rattle.refusal_rules.proofs.Answers.{then-gives, then-never, value-exactly, never-refused, above-seven}
 use Rattle.area_rules.specs.Samples.{lineLengthIn, lineStart, sampleAddress, IsSample, AreaFits}
 use Rattle.area_rules.specs.declared.AreaLayout.{AreaLayout}
 use Rattle.area_rules.specs.Bands.{slotOf}
-use Rattle.area_rules.specs.Bounds.{areaBounded}
+use Rattle.area_rules.specs.Bounds.{areaBounded, AreaBounds}
 use Rattle.area_rules.specs.declared.SlotOrBand.{SlotOrBand}
 use Rattle.area_rules.proofs.Bands.{named-slot-inside, slot-never}
 use Rattle.area_rules.specs.Places.{lengthOfLine, lengthOfData, lineRules, lineStartOf, sampleRules, samplePlace}
 use Rattle.area_rules.proofs.Bounds.{area-bounds, area-bounded}
 use Rattle.area_rules.proofs.Tables.{lines-hold, samples-hold}
 
+-- the length of a line is answered exactly where the layout is within bounds, and then it is W15 + W14·W10·W11
+pub line-length-exactly : (l : AreaLayout) (n : ℕ) → (lengthOfLine l ≡ gives n) ↔ (AreaBounds l × (n ≡ lineLengthIn l))
+unfolding lengthOfLine
+line-length-exactly l n =
+    let x = value-exactly (rule (areaBounded l) 7 0 ∷ []) (lineLengthIn l) n in
+    let y = area-bounds l in
+    (λ e. (y .sound (x .0 e .0 .0), x .0 e .1), λ h. x .1 ((y .complete (h .0), tt), h .1))
+
 module _ (l : AreaLayout) (fits : AreaFits l) where
   -- a line of an accepted file has its length
   pub line-length : lengthOfLine l ≡ gives (lineLengthIn l)
-  unfolding lengthOfLine
-  line-length = value-exactly (rule (areaBounded l) 7 0 ∷ []) (lineLengthIn l) (lineLengthIn l) .1 ((area-bounded l fits, tt), refl)
+  line-length = line-length-exactly l (lineLengthIn l) .1 (area-bounds l .sound (area-bounded l fits), refl)
 
   -- DATA of an accepted file has the bytes of its lines
   pub data-length : lengthOfData l ≡ gives (l .lines * lineLengthIn l)
   unfolding lengthOfData
-  data-length =
-      value-exactly (rule (areaBounded l) 7 0 ∷ []) (l .lines * lineLengthIn l) (l .lines * lineLengthIn l) .1 ((area-bounded l fits, tt), refl)
+  data-length = ap (mapped (λ line. l .lines * line)) line-length
 
   -- the start of a line is answered exactly where there is such a line, and then it is W34 + l·(line length)
   pub line-start : (i s : ℕ) → (lineStartOf l i ≡ gives s) ↔ ((i < l .lines) × (s ≡ lineStart l i))

@@ -16,14 +16,14 @@ use Rattle.area_rules.specs.declared.SlotOrBand.the-variants.{Slot, Band
 abbrev pub bitOf : ℕ → ℕ → ℕ
 bitOf n i = n / 2 ^ i % 2
 
--- W20 as it counts in a band map of W14 bands: "W20 counting only if W14 is above 32". Where it does not count, no bit of it is set.
-abbrev pub secondMap : ℕ → ℕ → ℕ
-secondMap w14 w20 = pick (leb w14 32) 0 w20
-
 -- Bit i of the band map: "Band b lies at bit b-1 of W19 for 1 to 32, and at bit b-33 of W20 for 33 to 64". Band b has bit b - 1 of the whole map; W20 is given
 -- as it counts.
 unfoldable pub mapBit : ℕ → ℕ → ℕ → ℕ
 mapBit w19 w20 i = pick (ltb i 32) (bitOf w19 i) (bitOf w20 (i - 32))
+
+-- W20 as it counts in a band map of W14 bands: "W20 counting only if W14 is above 32". Where it does not count, no bit of it is set.
+abbrev pub secondMap : ℕ → ℕ → ℕ
+secondMap w14 w20 = pick (leb w14 32) 0 w20
 
 -- how many of the bits of the band map below bit n are set
 unfoldable pub setBelow : ℕ → ℕ → ℕ → ℕ

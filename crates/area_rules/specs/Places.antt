@@ -4,7 +4,7 @@
 use mathlib.Core.List.{List, [], _∷_}
 use Prim.Native.Nat.{ℕ, _*_}
 use lib.Dec.{ltb}
-use Rattle.refusal_rules.specs.Answers.{Answer, answered, andThen, place}
+use Rattle.refusal_rules.specs.Answers.{Answer, answered, mapped, andThen, place}
 use Rattle.refusal_rules.specs.Rules.{Rule, rule, firstFault}
 use Rattle.refusal_rules.specs.declared.Place.{Place}
 use Rattle.area_rules.specs.Samples.{lineLengthIn, lineStart, sampleAddress}
@@ -17,9 +17,9 @@ use Rattle.area_rules.specs.Bounds.{areaBounded}
 unfoldable pub lengthOfLine : AreaLayout → Answer ℕ
 lengthOfLine a = answered (firstFault (rule (areaBounded a) 7 0 ∷ [])) (lineLengthIn a)
 
--- how many bytes DATA has by a layout, which are those of its W9 lines, or 7 where the layout is above the bounds of opening
+-- how many bytes DATA has by a layout, which "has W9 lines"; refused as the length of a line is
 unfoldable pub lengthOfData : AreaLayout → Answer ℕ
-lengthOfData a = answered (firstFault (rule (areaBounded a) 7 0 ∷ [])) (a .lines * lineLengthIn a)
+lengthOfData a = mapped (λ line. a .lines * line) (lengthOfLine a)
 
 -- the rules of the start of line l: 7 where there is no such line
 unfoldable pub lineRules : AreaLayout → ℕ → List Rule

@@ -11,16 +11,15 @@ use lib.ListN.{length, getD}
 use lib.Seq.{ext-getD}
 use Rattle.endian_rules.specs.Words.{signedAt}
 use Rattle.refusal_rules.specs.Answers.{Answer, gives}
-use Rattle.refusal_rules.proofs.Answers.{gives-same, then-gives, value-exactly}
+use Rattle.refusal_rules.proofs.Answers.{gives-same, value-exactly}
 use Rattle.md_rules.specs.Accepts.{MdFits}
 use Rattle.md_rules.specs.Fields.{fieldsOf, fieldWord}
 use Rattle.md_rules.specs.Opening.{openMd}
 use Rattle.md_rules.specs.declared.MdLayout.{MdLayout}
 use Rattle.md_rules.proofs.Facts.{md-of}
-use Rattle.layout_rules.specs.Found.{mdOf}
 use Rattle.layout_rules.specs.declared.Layout.{Layout}
 use Rattle.layout_rules.specs.declared.Layout.the-variants.{Md}
-use Rattle.layout_rules.proofs.OneKind.{md-found}
+use Rattle.layout_rules.proofs.OneKind.{md-then}
 use Rattle.md_part_rules.specs.Records.{recordFields, IsRecord, recordRules, recordIn, recordOf}
 use Rattle.md_part_rules.proofs.Fills.{row-fields, column-fields, data-fields, record-holds, holds-record}
 use Rattle.value_rules.specs.Reading.{readField}
@@ -111,8 +110,7 @@ module _ (f : List ℕ) (l : Layout) (r c : ℕ) where
   unfolding recordIn
   record-exactly xs = (
     λ e.
-        let (m, given, value) = then-gives (λ m. recordIn f m r c) (mdOf f l) xs .0 e in
-        let (layout, opens) = md-found f l m .0 given in
+        let (m, (layout, opens), value) = md-then f l (λ m. recordIn f m r c) xs .0 e in
         let (hold, same) = value-exactly (recordRules m r c) (recordFields f m r c) xs .0 value in
         let is : IsRecord m r c = record-holds m r c hold in
         record {
@@ -127,9 +125,9 @@ module _ (f : List ℕ) (l : Layout) (r c : ℕ) where
         },
     λ p.
         let m : MdLayout = p .md in
-        then-gives (λ m. recordIn f m r c) (mdOf f l) xs .1 (
+        md-then f l (λ m. recordIn f m r c) xs .1 (
           m,
-          md-found f l m .1 (p .layout, p .opens),
+          (p .layout, p .opens),
           value-exactly (recordRules m r c) (recordFields f m r c) xs .1 (holds-record m r c (p .is), only-record xs p),
         ),
   )

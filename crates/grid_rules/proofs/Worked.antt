@@ -13,4 +13,4 @@ use Rattle.grid_rules.specs.Worked.{wordsG, fileG, G, overlappingG, layo
 pub worked-grid : WorkedGrid
 unfolding openGrid openGridWords gridFileRules gridHeadRules slotsRules slotRules ownRules headerRules sizeRules overlapRule meets shares wantedRules gridLayoutOf
     firstFault first judge within atLeast wordAt numberAt decode value encode digits bytesOf given wordsG fileG G overlappingG layoutG
-worked-grid = record { size = refl; G-opens = refl; overlap = refl; alone = refl }
+worked-grid = record { size = refl; G-opens = refl; overlap = refl; not-overlapping = refl }

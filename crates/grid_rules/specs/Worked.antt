@@ -45,4 +45,4 @@ pub record WorkedGrid : Type 0 where
   pub G-opens : openGrid Big G 1 ≡ gives layoutG
   -- a grid at word 19 would share words with grid 1, and is refused for that alone: without it the file opens
   pub overlap : openGrid Big (overlappingG 19) 1 ≡ refuses 5 12
-  pub alone : openGrid Big (overlappingG 4294967295) 1 ≡ gives layoutG
+  pub not-overlapping : openGrid Big (overlappingG 4294967295) 1 ≡ gives layoutG

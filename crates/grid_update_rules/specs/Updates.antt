@@ -149,7 +149,7 @@ unfoldable pub addGrid : Order → List ℕ → List ℕ → ℕ → ℕ → Lis
 addGrid o f header rows columns values t =
     changed (firstFault (addRules o f (length header) rows columns (length values) (length t))) (added o f rows columns) o f (withGrid o f header rows columns values) t
 
--- ---- telling the free stretches
+-- ---- telling the free stretches, which request 5 has only after a change: without one, by its rule of the table
 
 -- all rules of telling the free stretches in a table of `size` pairs: 1 to 5 on the file, and then "10 for a table of fewer than n+1 pairs"
 unfoldable pub stretchRules : Order → List ℕ → ℕ → List Rule

@@ -7,7 +7,7 @@ use mathlib.Core.List.{List}
 use Prim.Native.Nat.{ℕ, _<_}
 use native.Mathlib.Omega.{arith}
 use Rattle.refusal_rules.specs.Answers.{Answer, gives, refuses, andThen}
-use Rattle.refusal_rules.proofs.Answers.{gives-refuses, gives-same, mapped-gives, then-never, then-refused, seven-only, nine}
+use Rattle.refusal_rules.proofs.Answers.{gives-refuses, gives-same, mapped-gives, then-gives, then-never, then-refused, seven-only, nine}
 use Rattle.area_rules.specs.Opening.{openArea}
 use Rattle.area_rules.specs.Samples.{AreaOf}
 use Rattle.area_rules.proofs.Facts.{area-of}
@@ -103,6 +103,15 @@ module _ {Value : Type 0} {kind : Value → Layout} {own : Layout → Answer Val
     λ p. found-fresh own f l (subst (Fresh f) (sym (p .0)) (p .1)) ∙ ap own (p .0) ∙ k .given v,
   )
 
+  -- a call that goes on with the layout gives a value exactly where it is the layout, and fresh, and the call gives that value
+  value-then : {Other : Type 0} (h : Value → Answer Other) (w : Other)
+      → (andThen (found own f l) h ≡ gives w) ↔ ((v : Value) × ((l ≡ kind v) × Fresh f (kind v)) × (h v ≡ gives w))
+  value-then h w =
+      let x = then-gives h (found own f l) w in (
+        λ e. let (v, here, given) = x .0 e in (v, value-found v .0 here, given),
+        λ p. x .1 (p .0, value-found (p .0) .1 (p .1), p .2),
+      )
+
   -- 9 exactly where the layout is stale
   stale-found : (found own f l ≡ refuses 9 0) ↔ (¬ Fresh f l)
   stale-found = stale-exactly own f l (k .never 9 nine l)
@@ -130,6 +139,15 @@ pub area-found : (f : List ℕ) (l : Layout) (a : AreaLayout) → (areaOf f l �
 area-found f l a =
     let x = value-found area-kind f l a in
     (λ e. (x .0 e .0, fresh-area f a .0 (x .0 e .1)), λ p. x .1 (p .0, fresh-area f a .1 (p .1)))
+
+-- a call that goes on with it gives a value exactly where that is so, and it gives the value
+pub area-then : {Other : Type 0} (f : List ℕ) (l : Layout) (h : AreaLayout → Answer Other) (w : Other)
+    → (andThen (areaOf f l) h ≡ gives w) ↔ ((a : AreaLayout) × ((l ≡ Area a) × (openArea f ≡ gives a)) × (h a ≡ gives w))
+area-then f l h w =
+    let x = value-then area-kind f l h w in (
+      λ e. let (a, (same, fresh), given) = x .0 e in (a, (same, fresh-area f a .0 fresh), given),
+      λ p. x .1 (p .0, (p .1 .0, fresh-area f (p .0) .1 (p .1 .1)), p .2),
+    )
 
 -- what is known of it
 pub area-known : (f : List ℕ) (l : Layout) (a : AreaLayout) → areaOf f l ≡ gives a → AreaOf f a
@@ -182,6 +200,14 @@ pub md-found : (f : List ℕ) (l : Layout) (m : MdLayout) → (mdOf f l ≡ give
 md-found f l m =
     let x = value-found md-kind f l m in
     (λ e. (x .0 e .0, fresh-md f m .0 (x .0 e .1)), λ p. x .1 (p .0, fresh-md f m .1 (p .1)))
+
+pub md-then : {Other : Type 0} (f : List ℕ) (l : Layout) (h : MdLayout → Answer Other) (w : Other)
+    → (andThen (mdOf f l) h ≡ gives w) ↔ ((m : MdLayout) × ((l ≡ Md m) × (openMd (m .order) f ≡ gives m)) × (h m ≡ gives w))
+md-then f l h w =
+    let x = value-then md-kind f l h w in (
+      λ e. let (m, (same, fresh), given) = x .0 e in (m, (same, fresh-md f m .0 fresh), given),
+      λ p. x .1 (p .0, (p .1 .0, fresh-md f (p .0) .1 (p .1 .1)), p .2),
+    )
 
 pub md-known : (f : List ℕ) (l : Layout) (m : MdLayout) → mdOf f l ≡ gives m → MdOf (m .order) f m
 md-known f l m e = md-of (m .order) f m (md-found f l m .0 e .1)

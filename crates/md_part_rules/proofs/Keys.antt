@@ -11,15 +11,14 @@ use lib.ListN.{length}
 use borrow.Author.Tests.{eqb-true, eqb-false}
 use Rattle.refusal_rules.specs.Answers.{gives, refuses}
 use Rattle.refusal_rules.specs.Tests.{Exactly}
-use Rattle.refusal_rules.proofs.Answers.{gives-refuses, gives-same, then-gives, seven-only, nine}
+use Rattle.refusal_rules.proofs.Answers.{gives-refuses, gives-same, seven-only, nine}
 use Rattle.refusal_rules.proofs.Exactness.{numbers-exactly}
 use Rattle.md_rules.specs.Opening.{openMd}
 use Rattle.md_rules.specs.declared.MdLayout.{MdLayout}
 use Rattle.layout_rules.specs.Layouts.{Fresh}
-use Rattle.layout_rules.specs.Found.{mdOf}
 use Rattle.layout_rules.specs.declared.Layout.{Layout}
 use Rattle.layout_rules.specs.declared.Layout.the-variants.{Md}
-use Rattle.layout_rules.proofs.OneKind.{md-found, md-nine}
+use Rattle.layout_rules.proofs.OneKind.{md-then, md-nine}
 use Rattle.md_part_rules.specs.Keys.{keyName, isNamed, keyIn, keyOf}
 use Rattle.md_part_rules.proofs.Names.{NoneBelow, First, first-searched, name-found, name-none, name-other}
 
@@ -129,15 +128,11 @@ pub record KeyOf (f : List ℕ) (l : Layout) (name : List ℕ) (k : ℕ) : Type 
 module _ (f : List ℕ) (l : Layout) (name : List ℕ) where
   -- a key of a file is found exactly where there is one
   pub key-of-exactly : (k : ℕ) → (keyOf f l name ≡ gives k) ↔ KeyOf f l name k
-  key-of-exactly k = (
-    λ e.
-        let (m, given, value) = then-gives (λ m. keyIn f m name) (mdOf f l) k .0 e in
-        let (layout, opens) = md-found f l m .0 given in
-        record { md = m; layout = layout; opens = opens; is = key-exactly f m name k .0 value },
-    λ x.
-        then-gives (λ m. keyIn f m name) (mdOf f l) k .1
-        (x .md, md-found f l (x .md) .1 (x .layout, x .opens), key-exactly f (x .md) name k .1 (x .is)),
-  )
+  key-of-exactly k =
+      let y = md-then f l (λ m. keyIn f m name) k in (
+        λ e. let (m, (layout, opens), value) = y .0 e in record { md = m; layout = layout; opens = opens; is = key-exactly f m name k .0 value },
+        λ x. y .1 (x .md, (x .layout, x .opens), key-exactly f (x .md) name k .1 (x .is)),
+      )
 
   -- it is refused with 9 exactly where the layout is stale
   pub key-stale : (keyOf f l name ≡ refuses 9 0) ↔ (¬ Fresh f l)

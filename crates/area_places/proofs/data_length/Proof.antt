@@ -1,53 +1,59 @@
--- `area_places::data_length` meets its contract: DATA has the bytes of the lines before line W9.
+-- `area_places::data_length` meets its contract: where a line has a length, the layout is within bounds, and the product fits.
 -- Assumes nothing.
 use mathlib.Core.Path.{_≡_, sym, ap, _∙_}
-use mathlib.Core.List.{[], _∷_}
+use Prim.Native.Nat.{ℕ, _*_}
 use native.Mathlib.Nat.{le-refl}
-use Rattle.refusal_rules.specs.Answers.{gives}
-use Rattle.refusal_rules.specs.Rules.{rule, firstFault, chained}
-use Rattle.refusal_rules.proofs.Tables.{by-table, pass-hold}
-use Rattle.area_rules.specs.Bounds.{areaBounded}
-use Rattle.area_rules.specs.Places.{lengthOfData}
-use Rattle.area_rules.proofs.Bounds.{area-bounds}
+use native.Mathlib.Omega.{arith}
+use Rattle.refusal_rules.specs.Answers.{gives, mapped, sizeSays}
+use Rattle.area_rules.specs.Places.{lengthOfLine, lengthOfData}
+use Rattle.area_rules.proofs.Places.{line-length-exactly}
+use Rattle.area_rules.proofs.Sizes.{lines-most}
 use borrow.Author.Needs.{needs}
 use Rattle.area_places.proofs.data_length.Statement.{statement}
 use Rattle.area_places.proofs.data_length.Tie as tie
 
-verdict : (c : tie.After-check) → let a = c .before .before .args in c .check .result ≡ firstFault (rule (areaBounded (a .layout)) 7 0 ∷ [])
-unfolding chained
-verdict c = by-table _ (rw (c .check .ensures, c .before .area-bounded .ensures))
+-- the length of a line that was found
+line-is : (c : tie.After-line) → lengthOfLine (c .before .before .before .args .layout) ≡ gives (c .line .given .0 .0)
+line-is c = sym (c .before .before .line-length .ensures) ∙ ap sizeSays (c .line .given .1)
 
-area-bounded-requires : tie.Need-area-bounded-requires
-area-bounded-requires c κs = search needs
-
-check-requires : tie.Need-check-requires
-check-requires c κs = search needs
+line-length-requires : tie.Need-line-length-requires
+line-length-requires c κs = search needs
 
 enum-known-refusal : tie.Need-enum-known-refusal
 enum-known-refusal c = search needs
 
-enum-told : tie.Need-enum-told
-enum-told c = search needs
+enum-known-line : tie.Need-enum-known-line
+enum-known-line c = search needs
 
-lines-before-requires : tie.Need-lines-before-requires
-lines-before-requires c κs = (area-bounds _ .sound (pass-hold _ (sym (verdict (c .before .before)) ∙ c .enum-told .given .1) .0), le-refl _)
+cast-t6 : tie.Need-cast-t6
+cast-t6 c = search needs
+
+mul-t7 : tie.Need-mul-t7
+mul-t7 c =
+    let l = c .before .before .before .before .before .args .layout in
+    let (bounds, same) = line-length-exactly l _ .0 (line-is (c .before .before)) in
+    omega (arith, ap (λ (n : ℕ). l .lines * n) same, lines-most bounds (l .lines) (le-refl (l .lines)) (omega arith))
 
 returns : tie.Need-returns
 unfolding lengthOfData
-returns c = rw (sym (verdict (c .before .before .before)) ∙ c .before .refusal .given .1)
+returns c =
+    let l = c .before .before .before .before .args .layout in
+    ap (mapped (λ (n : ℕ). l .lines * n)) (ap sizeSays (sym (c .before .refusal .given .1)) ∙ c .before .before .before .line-length .ensures)
 
 returns-2 : tie.Need-returns-2
 unfolding lengthOfData
-returns-2 c = rw (sym (verdict (c .before .before .before)) ∙ c .before .enum-told .given .1) (ap gives (c .lines-before .ensures))
+returns-2 c =
+    let l = c .before .before .before .before .before .args .layout in
+    ap (mapped (λ (n : ℕ). l .lines * n)) (sym (line-is (c .before .before)))
 
 pub data-length-spec : {M : Type 1} → statement M
 data-length-spec =
     tie.close
     (tie.spec
-    area-bounded-requires
-    check-requires
+    line-length-requires
     enum-known-refusal
-    enum-told
-    lines-before-requires
+    enum-known-line
+    cast-t6
+    mul-t7
     returns
     returns-2)
