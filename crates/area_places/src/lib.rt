@@ -55,7 +55,10 @@ pub fn data_length(layout: AreaLayout) -> SizeAnswer
 {
     match line_length(layout) {
         SizeAnswer::Refused(refusal) => SizeAnswer::Refused(refusal),
-        SizeAnswer::Value(line) => SizeAnswer::Value(layout.lines as usize * line),
+        SizeAnswer::Value(line) => {
+            let length = layout.lines as usize * line;
+            SizeAnswer::Value(length)
+        }
     }
 }
 

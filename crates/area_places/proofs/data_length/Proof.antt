@@ -25,11 +25,11 @@ enum-known-refusal c = search needs
 enum-known-line : tie.Need-enum-known-line
 enum-known-line c = search needs
 
-cast-t6 : tie.Need-cast-t6
-cast-t6 c = search needs
+cast-length : tie.Need-cast-length
+cast-length c = search needs
 
-mul-t7 : tie.Need-mul-t7
-mul-t7 c =
+mul-length : tie.Need-mul-length
+mul-length c =
     let l = c .before .before .before .before .before .args .layout in
     let (bounds, same) = line-length-exactly l _ .0 (line-is (c .before .before)) in
     omega (arith, ap (λ (n : ℕ). l .lines * n) same, lines-most bounds (l .lines) (le-refl (l .lines)) (omega arith))
@@ -53,7 +53,7 @@ data-length-spec =
     line-length-requires
     enum-known-refusal
     enum-known-line
-    cast-t6
-    mul-t7
+    cast-length
+    mul-length
     returns
     returns-2)
