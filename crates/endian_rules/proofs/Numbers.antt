@@ -1,30 +1,22 @@
--- Laws of numbers and their bytes, each over the order and the width. Reading 1, 2 and 4 bytes in either order rests on `horner`.
+-- Laws of numbers and their bytes, each over the order and the width.
 -- Assumes nothing.
 use mathlib.Core.Path.{_≡_, refl, sym, ap, ap₂, subst, _∙_}
 use mathlib.Core.List.{List, [], _∷_, _++_, reverse-append, reverse-reverse}
-use Prim.Native.Nat.{ℕ, zero, suc, _+_, _-_, _*_, _/_, _%_, _^_, _≤_, _<_}
-use native.Mathlib.Nat.{lt-of-lt-of-le, pow-le-pow-right, mul-assoc, mul-comm, pow-suc, pow-succ', one-le-pow, div-one, div-div-eq-div-mul, mod-lt, mod-eq-of-lt}
+use Prim.Native.Nat.{ℕ, zero, suc, _+_, _*_, _/_, _%_, _^_, _<_}
+use native.Mathlib.Nat.{mul-assoc, mul-comm, pow-suc, pow-succ', one-le-pow, div-one, div-div-eq-div-mul, mod-lt, mod-eq-of-lt}
 use native.Mathlib.Omega.{arith}
 use lib.Arith.{mod-mul}
 use lib.Dec.{lit<}
-use lib.ListN.{length, getD, drop, length-drop, length-reverse, List·getD-eq-default}
-use lib.Seq.{drop-cons, getD-drop}
+use lib.ListN.{length, getD, length-reverse, List·getD-eq-default}
 use native.Mathlib.Decide.{decLt}
+use Rattle.lists.specs.Lists.{listOf}
+use Rattle.lists.proofs.Built.{length-listOf}
 use Rattle.lists.proofs.Reversed.{getD-reverse}
 use Rattle.endian_rules.specs.Numbers.{value, digits, ordered, position, decode, encode, withByte, Bytes}
 use Rattle.endian_rules.specs.declared.Order.{Order}
 use Rattle.endian_rules.specs.declared.Order.the-variants.{Big, Little}
 
 -- ---- digits, the least significant first
-
--- Horner's form, from the most significant digit down: what the digits from r on stand for, and the next digit, give what
--- the digits from r - 1 on stand for. The read of every width in either order rests on this.
-pub horner : (ds : List ℕ) (r : ℕ) → 0 < r → r ≤ length ds → value (drop r ds) * 256 + getD ds (r - 1) 0 ≡ value (drop (r - 1) ds)
-unfolding value
-horner ds zero h l = let z : ⊥ = omega arith in absurd z
-horner ds (suc r) h l =
-    let e : suc r - 1 ≡ r = omega arith in
-    rw e (sym (ap value (drop-cons ds r 0 l) ∙ omega arith))
 
 -- digits behind digits
 pub value-append : (l k : List ℕ) → value (l ++ k) ≡ value l + 256 ^ length l * value k
@@ -33,18 +25,24 @@ value-append [] k = omega arith
 value-append (d ∷ l) k =
     omega (arith, value-append l k, ap (λ (x : ℕ). x * value k) (pow-succ' 256 (length l)) ∙ mul-assoc 256 (256 ^ length l) (value k))
 
+-- the sum of w digits, the digit 0 the least significant, each times its power of 256; the most significant comes first
+unfoldable pub sumOfPowers : (ℕ → ℕ) → ℕ → ℕ
+sumOfPowers digit zero = 0
+sumOfPowers digit (suc k) = digit k * 256 ^ k + sumOfPowers digit k
+
+-- digits stand for that sum
+pub value-sum : (digit : ℕ → ℕ) (w : ℕ) → value (listOf digit w) ≡ sumOfPowers digit w
+unfolding value listOf sumOfPowers
+value-sum digit zero = refl
+value-sum digit (suc w) =
+    value-append (listOf digit w) (digit w ∷ [])
+    ∙ omega (arith, value-sum digit w, mul-comm (256 ^ w) (digit w), ap (λ (x : ℕ). 256 ^ x * (digit w + 256 * 0)) (length-listOf digit w))
+
 -- w digits stand for a number below 256 ^ w
 pub value-bound : (ds : List ℕ) → Bytes ds → value ds < 256 ^ length ds
 unfolding value
 value-bound [] h = lit< tt
 value-bound (d ∷ ds) h = omega (arith, h 0, value-bound ds (λ i. h (suc i)), pow-succ' 256 (length ds))
-
--- what the digits from r on stand for fits 32 bits where there are at most four
-pub value-fits : (ds : List ℕ) (r : ℕ) → Bytes ds → length ds ≤ 4 → value (drop r ds) < 2 ^ 32
-value-fits ds r h l =
-    let few : length (drop r ds) ≤ 4 = omega (arith, length-drop r ds) in
-    lt-of-lt-of-le (value-bound (drop r ds) (λ i. rw (getD-drop r ds i 0) (h (r + i))))
-    (pow-le-pow-right {n = 256} (lit< tt) few)
 
 -- a number has as many low digits as are asked for
 pub length-digits : (w n : ℕ) → length (digits w n) ≡ w

@@ -1,88 +1,287 @@
--- `endian_steps::read_number` meets its contract. The loop goes from the most significant digit down: where `rest` digits are still to
--- come, the number so far is what the digits from `rest` on stand for, and a turn is one step of `horner`.
+-- `endian_steps::read_number` meets its contract: each arm is `number-sum` at its order and width, over the bytes of the number.
 -- Assumes nothing.
-use mathlib.Core.Path.{_≡_, sym, ap, _∙_}
-use mathlib.Core.List.{List}
-use Prim.Native.Nat.{ℕ, _+_, _-_, _*_, _^_, _≤_, _<_}
+use mathlib.Core.Path.{_≡_}
+use Prim.Native.Nat.{ℕ, _+_, _-_}
 use native.Mathlib.Omega.{arith}
-use lib.ListN.{length, getD, drop, drop-of-length-le}
-use Rattle.endian_rules.specs.Numbers.{value, decode, digitsAt, numberAt}
-use Rattle.endian_rules.proofs.Numbers.{horner, value-fits}
-use Rattle.endian_rules.proofs.Places.{length-digitsAt, digitsAt-bytes}
+use borrow.Author.Needs.{needs}
+use lib.ListN.{getD, take, drop}
+use Rattle.endian_rules.specs.Numbers.{position, numberAt}
+use Rattle.endian_rules.specs.declared.Order.{Order}
+use Rattle.endian_rules.specs.declared.Order.the-variants.{Big, Little}
+use Rattle.endian_rules.proofs.Numbers.{sumOfPowers}
+use Rattle.endian_rules.proofs.Places.{number-sum}
 use Rattle.endian_steps.proofs.read_number.Statement.{statement}
 use Rattle.endian_steps.proofs.read_number.Tie as tie
 
-abbrev Inv-loop : tie.InvT-loop
-Inv-loop order width file at rest₀ number₀ rest number =
-    (rest ≤ width) × (number ≡ value (drop rest (digitsAt order width file at)))
+-- the number that the contract asks for is the sum of an order and a width, over the bytes as the code takes them
+abbrev IsSum : tie.Start → Order → ℕ → Type 0
+IsSum s o w =
+    numberAt (s .args .order) (s .args .width) (s .args .file .now) (s .args .at)
+    ≡ sumOfPowers (λ k. getD (take (s .args .at + s .args .width - s .args .at) (drop (s .args .at) (s .args .file .now))) (position o w k) 0) w
 
-abbrev μ-loop : tie.MeasureT-loop
-μ-loop order width file at rest₀ number₀ rest number = rest
+is-sum : (s : tie.Start) (o : Order) (w : ℕ) → s .args .order ≡ o → s .args .width ≡ w → IsSum s o w
+is-sum s o w p q =
+    let e : s .args .at + s .args .width - s .args .at ≡ w = omega arith in
+    rw (e, p, q) (number-sum o w (s .args .file .now) (s .args .at) (omega arith))
 
--- the digits of the number, as many as it is wide
-abbrev theDigits : tie.Start Inv-loop μ-loop → List ℕ
-theDigits s = digitsAt (s .args .order) (s .args .width) (s .args .file .now) (s .args .at)
+-- after the test of the order
+big : (t : tie.After-enum-told) (w : ℕ) → t .before .before .before .before .args .width ≡ w → IsSum (t .before .before .before .before) Big w
+big t w q = is-sum (t .before .before .before .before) Big w (t .enum-told .given .1) q
 
-long : (s : tie.Start Inv-loop μ-loop) → length (theDigits s) ≡ s .args .width
-long s = length-digitsAt (s .args .order) (s .args .width) (s .args .file .now) (s .args .at) (s .pre .1)
+little : (t : tie.After-enum-told2) (w : ℕ) → t .before .before .before .before .args .width ≡ w → IsSum (t .before .before .before .before) Little w
+little t w q = is-sum (t .before .before .before .before) Little w (t .enum-told2 .given .1) q
 
--- one turn, and that its number fits
-next : (c : tie.In-loop Inv-loop μ-loop) → let l = c .before .loop in let ds = theDigits (c .before .before .before) in
-    l .number * 256 + getD ds (l .rest - 1) 0 ≡ value (drop (l .rest - 1) ds)
-next c =
-    let l = c .before .loop in
-    let ds = theDigits (c .before .before .before) in
-    ap (λ (n : ℕ). n * 256 + getD ds (l .rest - 1) 0) (l .inv .1)
-    ∙ horner ds (l .rest) (c .loop-test .taken) (omega (arith, l .inv .0, long (c .before .before .before)))
+add-end : tie.Need-add-end
+add-end c = search needs
 
-fits : (c : tie.In-loop Inv-loop μ-loop) → value (drop (c .before .loop .rest - 1) (theDigits (c .before .before .before))) < 2 ^ 32
-fits c =
-    let s = c .before .before .before in
-    value-fits (theDigits s) (c .before .loop .rest - 1)
-    (digitsAt-bytes (s .args .order) (s .args .width) (s .args .file .now) (s .args .at) (λ i. c .before .before .shared-slice-known .given i .fits))
-    (omega (arith, long s, s .pre .0))
+sub-b : tie.Need-sub-b
+sub-b c = search needs
 
-loop-holds : tie.Need-loop-holds Inv-loop μ-loop
-unfolding value
-loop-holds c =
-    let s = c .before in
-    (omega arith, sym (ap value (drop-of-length-le (theDigits s) {i = s .args .width} (omega (arith, long s)))))
+part-b-start : tie.Need-part-b-start
+part-b-start c = search needs
 
-sub-rest : tie.Need-sub-rest Inv-loop μ-loop
-sub-rest c = omega arith
+part-b-end : tie.Need-part-b-end
+part-b-end c = search needs
 
-mul-number : tie.Need-mul-number Inv-loop μ-loop
-mul-number c = omega (arith, next c, fits c)
+enum-told : tie.Need-enum-told
+enum-told c = search needs
 
-digit-requires : tie.Need-digit-requires Inv-loop μ-loop
-digit-requires c κs = (omega arith, omega arith)
+byte-requires : tie.Need-byte-requires
+byte-requires c κs = search needs
 
-add-number : tie.Need-add-number Inv-loop μ-loop
-add-number c = rw (c .digit .ensures) (omega (arith, next (c .before), fits (c .before)))
+mul-result : tie.Need-mul-result
+mul-result c = search needs
 
-loop-less : tie.Need-loop-less Inv-loop μ-loop
-loop-less c = omega arith
+byte-requires-2 : tie.Need-byte-requires-2
+byte-requires-2 c κs = search needs
 
-loop-again : tie.Need-loop-again Inv-loop μ-loop
-loop-again c = (omega arith, rw (c .digit .ensures) (next (c .before)))
+mul-result-2 : tie.Need-mul-result-2
+mul-result-2 c = search needs
 
-returns : tie.Need-returns Inv-loop μ-loop
-unfolding numberAt decode
-returns c =
-    let none : c .before .loop .rest ≡ 0 = omega arith in
-    c .before .loop .inv .1 ∙ ap (λ (r : ℕ). value (drop r (theDigits (c .before .before .before)))) none
+add-result : tie.Need-add-result
+add-result c = search needs
+
+byte-requires-3 : tie.Need-byte-requires-3
+byte-requires-3 c κs = search needs
+
+mul-result-3 : tie.Need-mul-result-3
+mul-result-3 c = search needs
+
+add-result-2 : tie.Need-add-result-2
+add-result-2 c = search needs
+
+byte-requires-4 : tie.Need-byte-requires-4
+byte-requires-4 c κs = search needs
+
+add-result-3 : tie.Need-add-result-3
+add-result-3 c = search needs
+
+byte-requires-5 : tie.Need-byte-requires-5
+byte-requires-5 c κs = search needs
+
+mul-result-4 : tie.Need-mul-result-4
+mul-result-4 c = search needs
+
+byte-requires-6 : tie.Need-byte-requires-6
+byte-requires-6 c κs = search needs
+
+mul-result-5 : tie.Need-mul-result-5
+mul-result-5 c = search needs
+
+add-result-4 : tie.Need-add-result-4
+add-result-4 c = search needs
+
+byte-requires-7 : tie.Need-byte-requires-7
+byte-requires-7 c κs = search needs
+
+add-result-5 : tie.Need-add-result-5
+add-result-5 c = search needs
+
+byte-requires-8 : tie.Need-byte-requires-8
+byte-requires-8 c κs = search needs
+
+mul-result-6 : tie.Need-mul-result-6
+mul-result-6 c = search needs
+
+byte-requires-9 : tie.Need-byte-requires-9
+byte-requires-9 c κs = search needs
+
+add-result-6 : tie.Need-add-result-6
+add-result-6 c = search needs
+
+byte-requires-10 : tie.Need-byte-requires-10
+byte-requires-10 c κs = search needs
+
+enum-told-2 : tie.Need-enum-told-2
+enum-told-2 c = search needs
+
+byte-requires-11 : tie.Need-byte-requires-11
+byte-requires-11 c κs = search needs
+
+mul-result-7 : tie.Need-mul-result-7
+mul-result-7 c = search needs
+
+byte-requires-12 : tie.Need-byte-requires-12
+byte-requires-12 c κs = search needs
+
+mul-result-8 : tie.Need-mul-result-8
+mul-result-8 c = search needs
+
+add-result-7 : tie.Need-add-result-7
+add-result-7 c = search needs
+
+byte-requires-13 : tie.Need-byte-requires-13
+byte-requires-13 c κs = search needs
+
+mul-result-9 : tie.Need-mul-result-9
+mul-result-9 c = search needs
+
+add-result-8 : tie.Need-add-result-8
+add-result-8 c = search needs
+
+byte-requires-14 : tie.Need-byte-requires-14
+byte-requires-14 c κs = search needs
+
+add-result-9 : tie.Need-add-result-9
+add-result-9 c = search needs
+
+byte-requires-15 : tie.Need-byte-requires-15
+byte-requires-15 c κs = search needs
+
+mul-result-10 : tie.Need-mul-result-10
+mul-result-10 c = search needs
+
+byte-requires-16 : tie.Need-byte-requires-16
+byte-requires-16 c κs = search needs
+
+mul-result-11 : tie.Need-mul-result-11
+mul-result-11 c = search needs
+
+add-result-10 : tie.Need-add-result-10
+add-result-10 c = search needs
+
+byte-requires-17 : tie.Need-byte-requires-17
+byte-requires-17 c κs = search needs
+
+add-result-11 : tie.Need-add-result-11
+add-result-11 c = search needs
+
+byte-requires-18 : tie.Need-byte-requires-18
+byte-requires-18 c κs = search needs
+
+mul-result-12 : tie.Need-mul-result-12
+mul-result-12 c = search needs
+
+byte-requires-19 : tie.Need-byte-requires-19
+byte-requires-19 c κs = search needs
+
+add-result-12 : tie.Need-add-result-12
+add-result-12 c = search needs
+
+byte-requires-20 : tie.Need-byte-requires-20
+byte-requires-20 c κs = search needs
+
+returns : tie.Need-returns
+unfolding sumOfPowers
+returns c = omega (arith, big (c .before .before .before .before .before) 4 (omega arith))
+
+returns-2 : tie.Need-returns-2
+unfolding sumOfPowers
+returns-2 c = omega (arith, big (c .before .before .before .before) 3 (omega arith))
+
+returns-3 : tie.Need-returns-3
+unfolding sumOfPowers
+returns-3 c = omega (arith, big (c .before .before .before) 2 (omega arith))
+
+returns-4 : tie.Need-returns-4
+unfolding sumOfPowers
+returns-4 c = omega (arith, big (c .before .before) 1 (omega arith))
+
+returns-5 : tie.Need-returns-5
+unfolding sumOfPowers
+returns-5 c = omega (arith, big (c .before) 0 (omega arith))
+
+returns-6 : tie.Need-returns-6
+unfolding sumOfPowers
+returns-6 c = omega (arith, little (c .before .before .before .before .before) 4 (omega arith))
+
+returns-7 : tie.Need-returns-7
+unfolding sumOfPowers
+returns-7 c = omega (arith, little (c .before .before .before .before) 3 (omega arith))
+
+returns-8 : tie.Need-returns-8
+unfolding sumOfPowers
+returns-8 c = omega (arith, little (c .before .before .before) 2 (omega arith))
+
+returns-9 : tie.Need-returns-9
+unfolding sumOfPowers
+returns-9 c = omega (arith, little (c .before .before) 1 (omega arith))
+
+returns-10 : tie.Need-returns-10
+unfolding sumOfPowers
+returns-10 c = omega (arith, little (c .before) 0 (omega arith))
 
 pub read-number-spec : {M : Type 1} → statement M
 read-number-spec =
     tie.close
     (tie.spec
-    Inv-loop
-    μ-loop
-    loop-holds
-    sub-rest
-    mul-number
-    digit-requires
-    add-number
-    loop-less
-    loop-again
-    returns)
+    add-end
+    sub-b
+    part-b-start
+    part-b-end
+    enum-told
+    byte-requires
+    mul-result
+    byte-requires-2
+    mul-result-2
+    add-result
+    byte-requires-3
+    mul-result-3
+    add-result-2
+    byte-requires-4
+    add-result-3
+    byte-requires-5
+    mul-result-4
+    byte-requires-6
+    mul-result-5
+    add-result-4
+    byte-requires-7
+    add-result-5
+    byte-requires-8
+    mul-result-6
+    byte-requires-9
+    add-result-6
+    byte-requires-10
+    enum-told-2
+    byte-requires-11
+    mul-result-7
+    byte-requires-12
+    mul-result-8
+    add-result-7
+    byte-requires-13
+    mul-result-9
+    add-result-8
+    byte-requires-14
+    add-result-9
+    byte-requires-15
+    mul-result-10
+    byte-requires-16
+    mul-result-11
+    add-result-10
+    byte-requires-17
+    add-result-11
+    byte-requires-18
+    mul-result-12
+    byte-requires-19
+    add-result-12
+    byte-requires-20
+    returns
+    returns-2
+    returns-3
+    returns-4
+    returns-5
+    returns-6
+    returns-7
+    returns-8
+    returns-9
+    returns-10)
