@@ -40,7 +40,7 @@ pub fn read_number(order: Order, width: usize, file: &[u8], at: usize) -> u32
     }
 }
 
-// The byte i of some bytes, as a number. The caller must make sure that there is such a byte.
+// The byte i of some bytes, as a number, which is below 256. The caller must make sure that there is such a byte.
 fn byte(bytes: &[u8], i: usize) -> u32
     requires { ⌜ i < length (now bytes) ⌝ }
     ensures { λ r. ⌜ (r ≡ getD (now (bytes .entry)) i 0) × (r < 256) ⌝ }
