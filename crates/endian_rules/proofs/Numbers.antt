@@ -2,15 +2,13 @@
 -- Assumes nothing.
 use mathlib.Core.Path.{_≡_, refl, sym, ap, ap₂, subst, _∙_}
 use mathlib.Core.List.{List, [], _∷_, _++_, reverse-append, reverse-reverse}
-use Prim.Native.Nat.{ℕ, zero, suc, _+_, _*_, _/_, _%_, _^_, _<_}
-use native.Mathlib.Nat.{mul-assoc, mul-comm, pow-suc, pow-succ', one-le-pow, div-one, div-div-eq-div-mul, mod-lt, mod-eq-of-lt}
+use Prim.Native.Nat.{ℕ, zero, suc, _+_, _*_, _/_, _%_, _^_, _≤_, _<_}
+use native.Mathlib.Nat.{mul-assoc, mul-comm, mul-left-comm, pow-suc, pow-succ', one-le-pow, div-one, div-div-eq-div-mul, mod-lt, mod-eq-of-lt}
 use native.Mathlib.Omega.{arith}
 use lib.Arith.{mod-mul}
 use lib.Dec.{lit<}
 use lib.ListN.{length, getD, length-reverse, List·getD-eq-default}
 use native.Mathlib.Decide.{decLt}
-use Rattle.lists.specs.Lists.{listOf}
-use Rattle.lists.proofs.Built.{length-listOf}
 use Rattle.lists.proofs.Reversed.{getD-reverse}
 use Rattle.endian_rules.specs.Numbers.{value, digits, ordered, position, decode, encode, withByte, Bytes}
 use Rattle.endian_rules.specs.declared.Order.{Order}
@@ -30,13 +28,25 @@ unfoldable pub sumOfPowers : (ℕ → ℕ) → ℕ → ℕ
 sumOfPowers digit zero = 0
 sumOfPowers digit (suc k) = digit k * 256 ^ k + sumOfPowers digit k
 
--- digits stand for that sum
-pub value-sum : (digit : ℕ → ℕ) (w : ℕ) → value (listOf digit w) ≡ sumOfPowers digit w
-unfolding value listOf sumOfPowers
-value-sum digit zero = refl
-value-sum digit (suc w) =
-    value-append (listOf digit w) (digit w ∷ [])
-    ∙ omega (arith, value-sum digit w, mul-comm (256 ^ w) (digit w), ap (λ (x : ℕ). 256 ^ x * (digit w + 256 * 0)) (length-listOf digit w))
+-- there is nothing to add where every digit is 0
+sum-nothing : (digit : ℕ → ℕ) (n : ℕ) → ((k : ℕ) → digit k ≡ 0) → sumOfPowers digit n ≡ 0
+unfolding sumOfPowers
+sum-nothing digit zero h = refl
+sum-nothing digit (suc n) h = rw (h n) (omega (arith, sum-nothing digit n h))
+
+-- the least significant digit, and 256 times the sum of the others
+sum-first : (digit : ℕ → ℕ) (n : ℕ) → sumOfPowers digit (suc n) ≡ digit 0 + 256 * sumOfPowers (λ k. digit (suc k)) n
+unfolding sumOfPowers
+sum-first digit zero = omega arith
+sum-first digit (suc n) =
+    omega (arith, sum-first digit n, ap (λ (x : ℕ). digit (suc n) * x) (pow-succ' 256 n), mul-left-comm (digit (suc n)) 256 (256 ^ n))
+
+-- digits stand for that sum, of as many digits as there are or more: those that are not there count 0
+pub value-sum : (ds : List ℕ) (n : ℕ) → length ds ≤ n → value ds ≡ sumOfPowers (λ k. getD ds k 0) n
+unfolding value
+value-sum [] n h = sym (sum-nothing (λ k. getD [] k 0) n (λ k. refl))
+value-sum (d ∷ ds) zero h = let z : ⊥ = omega arith in absurd z
+value-sum (d ∷ ds) (suc n) h = omega (arith, value-sum ds n (omega arith), sum-first (λ k. getD (d ∷ ds) k 0) n)
 
 -- w digits stand for a number below 256 ^ w
 pub value-bound : (ds : List ℕ) → Bytes ds → value ds < 256 ^ length ds
@@ -100,6 +110,10 @@ digit-at Little l k h = refl
 pub position-inside : (o : Order) (w k : ℕ) → k < w → position o w k < w
 position-inside Big w k h = omega arith
 position-inside Little w k h = h
+
+-- past the last digit there is none, and it counts 0
+pub no-digit : (o : Order) (l : List ℕ) (k : ℕ) → length l ≤ k → getD (ordered o l) k 0 ≡ 0
+no-digit o l k h = List·getD-eq-default (ordered o l) 0 {n = k} (omega (arith, length-ordered o l))
 
 -- a list is one of bytes where each of its elements is a byte
 pub bytes-of : (l : List ℕ) → ((i : ℕ) → i < length l → getD l i 0 < 256) → Bytes l

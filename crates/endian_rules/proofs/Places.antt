@@ -10,9 +10,8 @@ use native.Mathlib.Numerals.{add-one}
 use native.Mathlib.Omega.{arith}
 use lib.Dec.{lit<}
 use lib.ListN.{length, getD, set, take, drop, length-take}
-use lib.Seq.{sets, length-sets, drop-drop, ext-getD}
-use Rattle.lists.specs.Lists.{Outside, Apart, part, listOf}
-use Rattle.lists.proofs.Built.{length-listOf, getD-listOf}
+use lib.Seq.{sets, length-sets, drop-drop}
+use Rattle.lists.specs.Lists.{Outside, Apart, part}
 use Rattle.lists.proofs.Parts.{length-part, getD-part, part-suc, part-part, part-left, part-right, part-same, part-agree}
 use Rattle.lists.proofs.Stores.{Where, inside, outside, where-is, sets-outside, sets-inside, part-stored, part-apart, set-sets, sets-append, sets-comm, sets-last}
 use Rattle.lists.proofs.Rows.{compared}
@@ -20,9 +19,16 @@ use Rattle.endian_rules.specs.Numbers.{value, digits, position, decode, 
 use Rattle.endian_rules.specs.Words.{wordAt, orderNumber}
 use Rattle.endian_rules.specs.declared.Order.{Order}
 use Rattle.endian_rules.specs.declared.Order.the-variants.{Big, Little}
-use Rattle.endian_rules.proofs.Numbers.{sumOfPowers, value-sum, length-ordered, bytes-of, digit-at, length-digits, digits-more, length-encode, encode-bytes, decode-encode, decode-encode-low, decode-bound, decode-more}
+use Rattle.endian_rules.proofs.Numbers.{sumOfPowers, value-sum, length-ordered, bytes-of, length-digits, digits-more, length-encode, encode-bytes, decode-encode, decode-encode-low, decode-bound, decode-more}
 
 -- ---- a number that is read
+
+-- The number is the sum of its digits, each times its power of 256. The sum may have more digits than the number has bytes: those that are not there count 0.
+-- The read of every width in either order rests on this.
+pub number-sum : (o : Order) (w : ℕ) (f : List ℕ) (at n : ℕ) → w ≤ n → numberAt o w f at ≡ sumOfPowers (λ k. getD (digitsAt o w f at) k 0) n
+unfolding numberAt decode
+number-sum o w f at n h =
+    value-sum (digitsAt o w f at) n (omega (arith, length-ordered o (part at w f), length-take w (drop at f)))
 
 four-bytes : (a b c d : ℕ) → decode Big (a ∷ b ∷ c ∷ d ∷ []) ≤ 65535 → decode Little (a ∷ b ∷ c ∷ d ∷ []) ≤ 65535
     → decode Big (a ∷ b ∷ c ∷ d ∷ []) ≡ 0
@@ -132,36 +138,6 @@ order-same Big Big e = refl
 order-same Big Little e = let z : ⊥ = omega arith in absurd z
 order-same Little Big e = let z : ⊥ = omega arith in absurd z
 order-same Little Little e = refl
-
--- ---- the digits of a number
-
--- there are as many as the number has bytes
-length-digitsAt : (o : Order) (w : ℕ) (f : List ℕ) (at : ℕ) → at + w ≤ length f → length (digitsAt o w f at) ≡ w
-length-digitsAt o w f at h = length-ordered o (part at w f) ∙ length-part at w f h
-
--- the digit k is the byte at its position
-digit-read : (o : Order) (w : ℕ) (f : List ℕ) (at k : ℕ) → k < w → at + w ≤ length f
-    → getD (digitsAt o w f at) k 0 ≡ getD (part at w f) (position o w k) 0
-digit-read o w f at k h fits =
-    let e : length (part at w f) ≡ w = length-part at w f fits in
-    digit-at o (part at w f) k (omega arith) ∙ ap (λ (x : ℕ). getD (part at w f) (position o x k) 0) e
-
--- The number is the sum of its digits, each times its power of 256, where the digit k is the byte at its position. The read of every width in either order
--- rests on this.
-pub number-sum : (o : Order) (w : ℕ) (f : List ℕ) (at : ℕ) → at + w ≤ length f → numberAt o w f at ≡ sumOfPowers (λ k. getD (part at w f) (position o w k) 0) w
-unfolding numberAt decode
-number-sum o w f at fits = ap value listed ∙ value-sum digit w
-  where
-    digit : ℕ → ℕ
-    digit k = getD (part at w f) (position o w k) 0
-
-    long : length (digitsAt o w f at) ≡ w
-    long = length-digitsAt o w f at fits
-
-    listed : digitsAt o w f at ≡ listOf digit w
-    listed =
-        ext-getD 0 (digitsAt o w f at) (listOf digit w) (long ∙ sym (length-listOf digit w))
-        (λ k h. digit-read o w f at k (omega (arith, long)) fits ∙ sym (getD-listOf digit w k 0 (omega (arith, long))))
 
 -- ---- a number that is written
 

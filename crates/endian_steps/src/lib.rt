@@ -9,43 +9,49 @@ ghost use mathlib.Core.Path.{_≡_};
 ghost use Prim.Native.Nat.{_+_, _<_, _^_, _≤_, _*_};
 ghost use lib.ListN.{length, getD};
 ghost use lib.Seq.{sets};
-ghost use Rattle.endian_rules.specs.Numbers.{position, numberAt, encode};
+ghost use Rattle.endian_rules.specs.Numbers.{ordered, position, numberAt, encode};
+ghost use Rattle.endian_rules.specs.declared.Order.the-variants.{Big, Little};
 ghost use Rattle.endian_rules.specs.Words.{signedAt, encodeSigned, wordAt};
 
-// The unsigned number of `width` bytes, at most four, at the byte `at`; of no bytes it is 0. The caller must make sure that the bytes are inside the file.
+// The unsigned number of `width` bytes, at most four, at the byte `at`. The caller must make sure that the bytes are inside the file.
 pub fn read_number(order: Order, width: usize, file: &[u8], at: usize) -> u32
     requires { ⌜ (width ≤ 4) × (at + width ≤ length (now file)) ⌝ }
     ensures { λ r. ⌜ r ≡ numberAt order width (now (file .entry)) at ⌝ }
 {
-    // The bytes of the number. Each is multiplied by its power of 256, which is 1, 256, 65536 or 16777216; a sum begins with the most significant byte.
     let end = at + width;
-    let b = &file[at..end];
+    let bytes = &file[at..end];
+    // Each byte is multiplied by its power of 256. A byte that is not there, since the number has fewer than four, counts 0.
     match order {
-        // The first byte is the most significant.
-        Order::Big => match width {
-            4 => byte(b, 0) * 16777216 + byte(b, 1) * 65536 + byte(b, 2) * 256 + byte(b, 3),
-            3 => byte(b, 0) * 65536 + byte(b, 1) * 256 + byte(b, 2),
-            2 => byte(b, 0) * 256 + byte(b, 1),
-            1 => byte(b, 0),
-            _ => 0,
-        },
-        // The last byte is the most significant.
-        Order::Little => match width {
-            4 => byte(b, 3) * 16777216 + byte(b, 2) * 65536 + byte(b, 1) * 256 + byte(b, 0),
-            3 => byte(b, 2) * 65536 + byte(b, 1) * 256 + byte(b, 0),
-            2 => byte(b, 1) * 256 + byte(b, 0),
-            1 => byte(b, 0),
-            _ => 0,
-        },
+        // The first byte is the most significant, and the last one is multiplied by 1.
+        Order::Big => byte_from_end(bytes, 3) * 16777216
+            + byte_from_end(bytes, 2) * 65536
+            + byte_from_end(bytes, 1) * 256
+            + byte_from_end(bytes, 0),
+        // The last byte is the most significant, and the first one is multiplied by 1.
+        Order::Little => byte_from_start(bytes, 3) * 16777216
+            + byte_from_start(bytes, 2) * 65536
+            + byte_from_start(bytes, 1) * 256
+            + byte_from_start(bytes, 0),
     }
 }
 
-// The byte i of some bytes, as a number, which is below 256. The caller must make sure that there is such a byte.
-fn byte(bytes: &[u8], i: usize) -> u32
-    requires { ⌜ i < length (now bytes) ⌝ }
-    ensures { λ r. ⌜ (r ≡ getD (now (bytes .entry)) i 0) × (r < 256) ⌝ }
+// The byte k, counted from 0 at the last one, as a number below 256; 0 where there is none. In big order it is the digit k.
+fn byte_from_end(bytes: &[u8], k: usize) -> u32
+    ensures { λ r. ⌜ (r ≡ getD (ordered Big (now (bytes .entry))) k 0) × (r < 256) ⌝ }
 {
-    bytes[i] as u32
+    if k < bytes.len() {
+        let i = bytes.len() - 1 - k;
+        bytes[i] as u32
+    } else {
+        0
+    }
+}
+
+// The byte k, counted from 0 at the first one, as a number below 256; 0 where there is none. In little order it is the digit k.
+fn byte_from_start(bytes: &[u8], k: usize) -> u32
+    ensures { λ r. ⌜ (r ≡ getD (ordered Little (now (bytes .entry))) k 0) × (r < 256) ⌝ }
+{
+    if k < bytes.len() { bytes[k] as u32 } else { 0 }
 }
 
 // The signed word at the byte `at`. The caller must make sure that its four bytes are inside the file.
