@@ -6,6 +6,7 @@ use bands::second_map;
 use endian::order_number;
 use endian_rules::Order;
 use endian_steps::read_word;
+use prefix_lengths::padding_length;
 use refusal::and;
 use refusal::equal_and;
 use refusal_rules::NO_BYTE_ORDER;
@@ -14,10 +15,11 @@ use refusal_rules::SHORT_FILE;
 use refusal_rules::Verdict;
 ghost use mathlib.Core.Path.{_≡_};
 ghost use Prim.Native.Nat.{_≤_};
-ghost use lib.ListN.{length, drop};
+ghost use mathlib.Core.List.{_++_};
+ghost use lib.ListN.{length};
 ghost use Rattle.refusal_rules.specs.Tests.{sameNumbers};
 ghost use Rattle.area_rules.specs.Rules.{directoryOf, wordIn};
-ghost use Rattle.area_rules.specs.Opening.{areaLayoutOf, areaSays, openAreaWords, openAreaTold, openArea, flagNumber, areaNumbers, sameArea};
+ghost use Rattle.area_rules.specs.Opening.{areaLayoutOf, areaSays, openAreaWords, openAreaTold, openArea, flagNumber, prefixNumbers, blockNumbers, sameArea};
 
 // The 64 words of a directory, read once in a byte order. Every rule is applied to them, and not to the file. W k, counted from 1, is
 // words[k - 1].
@@ -39,6 +41,7 @@ fn layout_of_words(told: usize, order: Order, words: &[u32; 64]) -> AreaLayout
     ensures { λ r. ⌜ r ≡ areaLayoutOf order told (wordIn (now (words .entry))) ⌝ }
 {
     let map2 = second_map(words[13], words[19]);
+    let padding = padding_length(words[35] == 0, words[48], words[49], words[50]);
     AreaLayout {
         order: order,
         length: told,
@@ -54,6 +57,7 @@ fn layout_of_words(told: usize, order: Order, words: &[u32; 64]) -> AreaLayout
         documentation: words[48],
         calibration: words[49],
         band_list: words[50],
+        padding: padding,
         aux: words[59],
         cal: words[62],
         cards: words[63],
@@ -125,34 +129,34 @@ fn flag_number(t: bool) -> u32
     if t { 1 } else { 0 }
 }
 
-// Whether two layouts are the same from the bytes of calibration (W50) on, their last six fields. What has been compared up to a field is named after it, here and
-// below.
-fn same_from_calibration(a: AreaLayout, b: AreaLayout) -> bool
-    ensures { λ r. ⌜ r ≡ sameNumbers (drop 12 (areaNumbers a)) (drop 12 (areaNumbers b)) ⌝ }
+// Whether two layouts have the same band map, starts of blocks and comment cards. What has been compared up to a field is named after it, here and below.
+fn same_blocks(a: AreaLayout, b: AreaLayout) -> bool
+    ensures { λ r. ⌜ r ≡ sameNumbers (blockNumbers a) (blockNumbers b) ⌝ }
 {
-    let flags = equal_and(
-        flag_number(a.no_validity_code),
-        flag_number(b.no_validity_code),
-        true,
-    );
-    let cards = equal_and(a.cards, b.cards, flags);
+    let cards = equal_and(a.cards, b.cards, true);
     let cal = equal_and(a.cal, b.cal, cards);
     let aux = equal_and(a.aux, b.aux, cal);
-    let band_list = equal_and(a.band_list, b.band_list, aux);
-    equal_and(a.calibration, b.calibration, band_list)
-}
-
-// Whether two layouts are the same from the bytes of a line prefix (W15) on, their last twelve fields.
-fn same_from_prefix(a: AreaLayout, b: AreaLayout) -> bool
-    ensures { λ r. ⌜ r ≡ sameNumbers (drop 6 (areaNumbers a)) (drop 6 (areaNumbers b)) ⌝ }
-{
-    let calibration = same_from_calibration(a, b);
-    let documentation = equal_and(a.documentation, b.documentation, calibration);
-    let nav = equal_and(a.nav, b.nav, documentation);
+    let nav = equal_and(a.nav, b.nav, aux);
     let data_start = equal_and(a.data_start, b.data_start, nav);
     let map2 = equal_and(a.map2, b.map2, data_start);
-    let map = equal_and(a.map, b.map, map2);
-    equal_and(a.prefix, b.prefix, map)
+    equal_and(a.map, b.map, map2)
+}
+
+// Whether two layouts have the same line prefixes, and the same band map, starts of blocks and comment cards.
+fn same_from_prefix(a: AreaLayout, b: AreaLayout) -> bool
+    ensures { λ r. ⌜ r ≡ sameNumbers (prefixNumbers a ++ blockNumbers a) (prefixNumbers b ++ blockNumbers b) ⌝ }
+{
+    let blocks = same_blocks(a, b);
+    let padding = equal_and(a.padding, b.padding, blocks);
+    let band_list = equal_and(a.band_list, b.band_list, padding);
+    let calibration = equal_and(a.calibration, b.calibration, band_list);
+    let documentation = equal_and(a.documentation, b.documentation, calibration);
+    let code = equal_and(
+        flag_number(a.no_validity_code),
+        flag_number(b.no_validity_code),
+        documentation,
+    );
+    equal_and(a.prefix, b.prefix, code)
 }
 
 // Whether two AREA layouts are the same in every field.

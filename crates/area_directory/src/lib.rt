@@ -1,6 +1,7 @@
 // The rules of the words of an AREA directory, as functions over its 64 words. W k, counted from 1, is words[k - 1].
 use area_steps::line_bytes;
 use endian::at_least;
+use prefix_lengths::is_prefix_length;
 use refusal::and;
 use refusal::check;
 use refusal::or;
@@ -14,7 +15,7 @@ ghost use Prim.Native.Nat.{_≤_};
 ghost use lib.Dec.{leb, ltb, eqb};
 ghost use Rattle.lists.specs.Choices.{both, either};
 ghost use Rattle.refusal_rules.specs.Rules.{judge, first, firstFault};
-ghost use Rattle.area_rules.specs.Rules.{wordIn, areaCount, isWidth, areaCountRules, prefixLengthOf, lineLengthOf, areaShapeRules, auditEndOf, areaPlaceRules, areaDescribedRules, areaWordRules};
+ghost use Rattle.area_rules.specs.Rules.{wordIn, areaCount, isWidth, areaCountRules, lineLengthOf, areaShapeRules, auditEndOf, areaPlaceRules, areaDescribedRules, areaWordRules};
 ghost use Rattle.area_rules.specs.Lines.{auditEnd};
 
 // Refusal 3 at word k, after what came before, unless the word is from `low` to `high`.
@@ -52,15 +53,6 @@ fn count_verdict(words: &[u32; 64]) -> Verdict
     count(to_61, words, 64, 0, 65535)
 }
 
-// The prefix length that the words give, which W15 has to be, where the counts passed.
-fn prefix_length_of(words: &[u32; 64]) -> u32
-    requires { ⌜ firstFault (areaCountRules (wordIn (now words))) ≡ Verdict.Pass ⌝ }
-    ensures { λ r. ⌜ r ≡ prefixLengthOf (wordIn (now (words .entry))) ⌝ }
-{
-    let regions = words[48] + words[49] + words[50];
-    if words[35] == 0 { regions } else { 4 + regions }
-}
-
 // The line length that the words give, where the counts passed.
 fn line_length_of(words: &[u32; 64]) -> usize
     requires { ⌜ firstFault (areaCountRules (wordIn (now words))) ≡ Verdict.Pass ⌝ }
@@ -69,9 +61,9 @@ fn line_length_of(words: &[u32; 64]) -> usize
     line_bytes(words[14], words[13], words[9], words[10])
 }
 
-// The byte after AUDIT. The bounds are those of the counts, and of a line: 196,609 bytes of prefix and 16,776,960 of samples.
+// The byte after AUDIT. The bounds are those of the counts, and of a line: 196,612 bytes of prefix and 16,776,960 of samples.
 fn end_of_audit(start: u32, lines: u32, line: usize, cards: u32) -> usize
-    requires { ⌜ (lines ≤ 65535) × ((line ≤ 16973569) × (cards ≤ 65535)) ⌝ }
+    requires { ⌜ (lines ≤ 65535) × ((line ≤ 16973572) × (cards ≤ 65535)) ⌝ }
     ensures { λ r. ⌜ r ≡ auditEnd start lines line cards ⌝ }
 {
     start as usize + lines as usize * line + 80 * cards as usize
@@ -90,10 +82,8 @@ fn shape_verdict(words: &[u32; 64]) -> Verdict
     requires { ⌜ firstFault (areaCountRules (wordIn (now words))) ≡ Verdict.Pass ⌝ }
     ensures { λ r. ⌜ r ≡ firstFault (areaShapeRules (wordIn (now (words .entry)))) ⌝ }
 {
-    let to_49 = check(Verdict::Pass, words[48] % 4 == 0, RULE_BROKEN, 49);
-    let to_50 = check(to_49, words[49] % 4 == 0, RULE_BROKEN, 50);
-    let to_51 = check(to_50, words[50] % 4 == 0, RULE_BROKEN, 51);
-    let to_15 = check(to_51, words[14] == prefix_length_of(words), RULE_BROKEN, 15);
+    let prefix_fits = is_prefix_length(words[14], words[35] == 0, words[48], words[49], words[50]);
+    let to_15 = check(Verdict::Pass, prefix_fits, RULE_BROKEN, 15);
     let to_10 = check(to_15, line_length_of(words) % 4 == 0, RULE_BROKEN, 10);
     check(to_10, or(words[59] != 0, words[60] == 0), RULE_BROKEN, 61)
 }

@@ -5,6 +5,7 @@ use area_rules::AreaOpening;
 use area_rules::Region;
 use fresh_layout::area_of;
 use layout_rules::Layout;
+use prefix_lengths::validity_length;
 use refusal::check;
 use refusal_rules::ABSENT;
 use refusal_rules::NO_SUCH;
@@ -14,33 +15,63 @@ use span_rules::Span;
 use span_rules::SpanAnswer;
 use span_steps::hand_back;
 ghost use mathlib.Core.Path.{_≡_};
-ghost use Rattle.area_rules.specs.Blocks.{regionLength, regionOffset};
+ghost use Prim.Native.Nat.{_≤_};
+ghost use Rattle.lists.specs.Consecutive.{total, partOffset};
+ghost use Rattle.area_rules.specs.Blocks.{regionLengths, regionIndex, regionLength, regionOffset};
 ghost use Rattle.area_rules.specs.Samples.{AreaFits};
-ghost use Rattle.span_rules.specs.Spans.{spanSays, lentBytes, thatPart};
+ghost use Rattle.span_rules.specs.Spans.{span, spanSays, lentBytes, thatPart};
 ghost use Rattle.area_part_rules.specs.Regions.{regionOf, regionSpan};
 
-// How many bytes a region of a line prefix has.
-fn region_length(l: AreaLayout, region: Region) -> usize
-    ensures { λ r. ⌜ r ≡ regionLength l region ⌝ }
+// The lengths of the regions of a line prefix, in their order.
+fn region_lengths(l: AreaLayout) -> [usize; 5]
+    ensures { λ r. ⌜ r ≡ regionLengths l ⌝ }
+{
+    [
+        validity_length(l.no_validity_code),
+        l.documentation as usize,
+        l.calibration as usize,
+        l.band_list as usize,
+        l.padding as usize,
+    ]
+}
+
+// The place of a region among them, counted from 0.
+fn region_index(region: Region) -> usize
+    ensures { λ r. ⌜ (r ≡ regionIndex region) × (r ≤ 4) ⌝ }
 {
     match region {
-        Region::Validity => { if l.no_validity_code { 0 } else { 4 } }
-        Region::Documentation => l.documentation as usize,
-        Region::Calibration => l.calibration as usize,
-        Region::BandList => l.band_list as usize,
+        Region::Validity => 0,
+        Region::Documentation => 1,
+        Region::Calibration => 2,
+        Region::BandList => 3,
+        Region::Padding => 4,
     }
 }
 
-// How many bytes the regions before a region have.
-fn region_offset(l: AreaLayout, region: Region) -> usize
-    ensures { λ r. ⌜ r ≡ regionOffset l region ⌝ }
+// How many bytes the first k of them have together.
+fn offset_of(lengths: &[usize; 5], k: usize) -> usize
+    requires { ⌜ (k ≤ 4) × (total (now lengths) ≤ 4294967295) ⌝ }
+    ensures { λ r. ⌜ r ≡ partOffset (now (lengths .entry)) k ⌝ }
 {
-    let code = region_length(l, Region::Validity);
-    match region {
-        Region::Validity => 0,
-        Region::Documentation => code,
-        Region::Calibration => code + l.documentation as usize,
-        Region::BandList => code + l.documentation as usize + l.calibration as usize,
+    let mut offset: usize = 0;
+    let mut i: usize = 0;
+    while i < k {
+        offset += lengths[i];
+        i += 1;
+    }
+    offset
+}
+
+// Where a region lies in a line prefix of an accepted file: how many bytes there are before it, and how many it has.
+fn region_part(l: AreaLayout, region: Region) -> Span
+    requires { ⌜ AreaFits l ⌝ }
+    ensures { λ r. ⌜ r ≡ span (regionOffset l region) (regionLength l region) ⌝ }
+{
+    let lengths = region_lengths(l);
+    let k = region_index(region);
+    Span {
+        start: offset_of(&lengths, k),
+        length: lengths[k],
     }
 }
 
@@ -49,15 +80,15 @@ fn region_of(l: AreaLayout, line: u32, region: Region) -> SpanAnswer
     requires { ⌜ AreaFits l ⌝ }
     ensures { λ r. ⌜ spanSays r ≡ regionOf l line region ⌝ }
 {
-    let length = region_length(l, region);
+    let part = region_part(l, region);
     let lines = check(Verdict::Pass, line < l.lines, NO_SUCH, 0);
-    match check(lines, length != 0, ABSENT, 0) {
+    match check(lines, part.length != 0, ABSENT, 0) {
         Verdict::Fault(refusal) => SpanAnswer::Refused(refusal),
         Verdict::Pass => match line_start(l, line) {
             SizeAnswer::Refused(refusal) => SpanAnswer::Refused(refusal),
             SizeAnswer::Value(start) => SpanAnswer::At(Span {
-                start: start + region_offset(l, region),
-                length: length,
+                start: start + part.start,
+                length: part.length,
             }),
         },
     }

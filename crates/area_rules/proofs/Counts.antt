@@ -1,7 +1,6 @@
 -- Laws of the rules of a directory's words: their order, and what the counts give where they pass.
 -- Assumes nothing.
 use mathlib.Core.Path.{_≡_, refl, sym, subst}
-use mathlib.Core.Bool.{Bool, true, false}
 use mathlib.Core.Logic.{⊎-elim, _↔_}
 use mathlib.Core.List.{List, [], _∷_}
 use Prim.Native.Nat.{ℕ, _*_, _≤_}
@@ -14,18 +13,18 @@ use Rattle.refusal_rules.specs.Tests.{Exactly}
 use Rattle.refusal_rules.specs.declared.Verdict.the-variants.{Pass}
 use Rattle.refusal_rules.proofs.Exactness.{eq-exactly, either-exactly, within-exactly}
 use Rattle.refusal_rules.proofs.Tables.{pass-hold, also}
-use Rattle.area_rules.specs.Lines.{validityLength}
 use Rattle.area_rules.specs.Rules.{isWidth, areaCountRules, prefixLengthOf, lineLengthOf, areaShapeRules, areaPlaceRules, areaDescribedRules, areaWordRules, areaRules}
 use Rattle.area_rules.specs.Accepts.{IsWidth}
+use Rattle.area_rules.proofs.Prefixes.{code-most}
 
 -- ---- the order of the checks
 
--- Document 01's order, numbers and places: length; W2; counts W9, W10, W11, W14, W49, W50, W51, W61, W64; W49, W50, W51 as multiples of four;
--- W15; line length (place 10); W61; W34; then W35, W63, W60.
+-- Document 01's order, numbers and places: length; W2; counts W9, W10, W11, W14, W49, W50, W51, W61, W64; W15; line length (place 10); W61; W34; then
+-- W35, W63, W60.
 pub area-order : (told : ℕ) (d : List ℕ) → tabled (areaRules told d)
     ≡ (1, 0) ∷ (1, 0) ∷ (2, 2)
     ∷ (3, 9) ∷ (3, 10) ∷ (3, 11) ∷ (3, 14) ∷ (3, 49) ∷ (3, 50) ∷ (3, 51) ∷ (3, 61) ∷ (3, 64)
-    ∷ (4, 49) ∷ (4, 50) ∷ (4, 51) ∷ (4, 15) ∷ (4, 10) ∷ (4, 61)
+    ∷ (4, 15) ∷ (4, 10) ∷ (4, 61)
     ∷ (5, 34) ∷ (5, 35) ∷ (5, 63) ∷ (5, 60) ∷ []
 unfolding tabled areaRules areaWordRules areaDescribedRules areaCountRules areaShapeRules areaPlaceRules
 area-order told d = refl
@@ -91,15 +90,11 @@ counted W e = counts-exactly W .0 (pass-hold (areaCountRules W) e)
 
 -- ---- the words that have a rule
 
--- where the counts pass and W15 is the prefix length, a line has at most 196,609 bytes of prefix and 16,776,960 of samples
-pub line-most : (W : ℕ → ℕ) → firstFault (areaCountRules W) ≡ Pass → firstFault (areaShapeRules W) ≡ Pass → lineLengthOf W ≤ 16973569
+-- where the counts pass and W15 is the prefix length, a line has at most 196,612 bytes of prefix and 16,776,960 of samples
+pub line-most : (W : ℕ → ℕ) → firstFault (areaCountRules W) ≡ Pass → firstFault (areaShapeRules W) ≡ Pass → lineLengthOf W ≤ 16973572
 unfolding areaShapeRules
 line-most W e f =
     let k : AreaCounted W = counted W e in
-    let prefix : W 15 ≡ prefixLengthOf W = eqb-true (W 15) (prefixLengthOf W) (pass-hold (areaShapeRules W) f .1 .1 .1 .0) in
+    let prefix : W 15 ≡ prefixLengthOf W = eqb-true (W 15) (prefixLengthOf W) (pass-hold (areaShapeRules W) f .0) in
     let samples : W 14 * W 10 * W 11 ≤ 64 * 65535 * 4 = mul-le-mul (mul-le-mul (k .w14 .1) (k .w10 .1)) (width-bounds (W 11) (k .w11) .1) in
-    omega (arith, prefix, samples, code (eqb (W 36) 0), k .w49 .1, k .w50 .1, k .w51 .1)
-  where
-    code : (noCode : Bool) → validityLength noCode ≤ 4
-    code true = omega arith
-    code false = omega arith
+    omega (arith, prefix, samples, code-most (eqb (W 36) 0), k .w49 .1, k .w50 .1, k .w51 .1)

@@ -1,12 +1,11 @@
 -- What is known of the layout of an accepted AREA file. Everything above rests on this, and not on the table of rules.
 -- Assumes nothing.
-use mathlib.Core.Path.{_≡_, refl, sym, subst, ap, _∙_}
+use mathlib.Core.Path.{_≡_, refl, sym, subst, ap}
 use mathlib.Core.Bool.{Bool, true, false}
 use mathlib.Core.Logic.{_⊎_, ⊎-elim}
 use mathlib.Core.List.{List}
-use Prim.Native.Nat.{ℕ, _%_, _≤_, _<_}
+use Prim.Native.Nat.{ℕ, _≤_, _<_}
 use native.Mathlib.Omega.{arith}
-use lib.Dec.{eqb}
 use lib.ListN.{length}
 use borrow.Author.Tests.{le-leb, eqb-true, eqb-false}
 use Rattle.lists.specs.Choices.{pick}
@@ -16,18 +15,13 @@ use Rattle.endian_rules.specs.declared.Order.the-variants.{Big, Little}
 use Rattle.endian_rules.proofs.Places.{one-order}
 use Rattle.endian_rules.proofs.Signs.{signed-at-least}
 use Rattle.refusal_rules.specs.Answers.{gives}
-use Rattle.area_rules.specs.Lines.{prefixLength}
 use Rattle.area_rules.specs.Rules.{directoryOf, wordIn, readsFour, areaOrder, auditEndOf}
 use Rattle.area_rules.specs.Opening.{areaLayoutOf, openAreaTold, openArea}
 use Rattle.area_rules.specs.Accepts.{BlockStartFits, AcceptsAreaWords}
 use Rattle.area_rules.specs.Samples.{IsBlockStart, AreaFits, AreaOf}
 use Rattle.area_rules.specs.declared.AreaLayout.{AreaLayout}
 use Rattle.area_rules.proofs.Acceptance.{told-exactly, area-exactly}
-
--- a prefix whose regions are multiples of four is one
-four-prefix : (noCode : Bool) (a b c : ℕ) → a % 4 ≡ 0 → b % 4 ≡ 0 → c % 4 ≡ 0 → prefixLength noCode a b c % 4 ≡ 0
-four-prefix true a b c p q r = omega arith
-four-prefix false a b c p q r = omega arith
+use Rattle.area_rules.proofs.Prefixes.{rounded-exactly}
 
 -- a block that is not absent starts where its rule asks
 module _ (told start end x : ℕ) {Unequal : Type 0} (h : BlockStartFits told start end x Unequal) (there : ¬ (x ≡ 0)) where
@@ -56,8 +50,8 @@ words-fit told o W a =
       band-list-to = a .w51 .1;
       cards-to = a .w64 .1;
       prefix = a .w15;
-      prefix-four =
-          ap (λ (n : ℕ). n % 4) (a .w15) ∙ four-prefix (eqb (W 36) 0) (W 49) (W 50) (W 51) (a .multiple49) (a .multiple50) (a .multiple51);
+      padding = refl;
+      prefix-four = rounded-exactly _ (W 15) .0 (a .w15) .four;
       line-four = a .line;
       second-map = λ h. ap (λ t. pick t 0 (W 20)) (le-leb (W 14) 32 h);
       data-start-from = data-start .0;

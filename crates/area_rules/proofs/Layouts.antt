@@ -47,17 +47,18 @@ numbers-settle a b e = λ i.
       width = getD (e i) 4 0;
       bands = getD (e i) 5 0;
       prefix = getD (e i) 6 0;
-      map = getD (e i) 7 0;
-      map2 = getD (e i) 8 0;
-      «data_start» = getD (e i) 9 0;
-      nav = getD (e i) 10 0;
-      documentation = getD (e i) 11 0;
-      calibration = getD (e i) 12 0;
-      «band_list» = getD (e i) 13 0;
-      aux = getD (e i) 14 0;
-      cal = getD (e i) 15 0;
-      cards = getD (e i) 16 0;
-      «no_validity_code» = flag-same (a .«no_validity_code») (b .«no_validity_code») (ap (λ (l : List ℕ). getD l 17 0) e) i;
+      «no_validity_code» = flag-same (a .«no_validity_code») (b .«no_validity_code») (ap (λ (l : List ℕ). getD l 7 0) e) i;
+      documentation = getD (e i) 8 0;
+      calibration = getD (e i) 9 0;
+      «band_list» = getD (e i) 10 0;
+      padding = getD (e i) 11 0;
+      map = getD (e i) 12 0;
+      map2 = getD (e i) 13 0;
+      «data_start» = getD (e i) 14 0;
+      nav = getD (e i) 15 0;
+      aux = getD (e i) 16 0;
+      cal = getD (e i) 17 0;
+      cards = getD (e i) 18 0;
     }
 
 -- the comparison says exactly whether two layouts are the same

@@ -1,3 +1,4 @@
+pub mod Prefixes
 pub mod Counts
 pub mod Words
 pub mod Directory
@@ -8,6 +9,7 @@ pub mod Footprint
 pub mod Samples
 pub mod Blocks
 pub mod Regions
+pub mod Unpadded
 pub mod Worked
 pub mod Bands
 pub mod Bounds

@@ -69,12 +69,9 @@ module _ (told : ℕ) (W : ℕ → ℕ) where
         w51 = k .w51;
         w61 = k .w61;
         w64 = k .w64;
-        multiple49 = multiple-exactly (W 49) .sound (shape .0);
-        multiple50 = multiple-exactly (W 50) .sound (shape .1 .0);
-        multiple51 = multiple-exactly (W 51) .sound (shape .1 .1 .0);
-        w15 = eq-exactly (W 15) (prefixLengthOf W) .sound (shape .1 .1 .1 .0);
-        line = multiple-exactly (lineLengthOf W) .sound (shape .1 .1 .1 .1 .0);
-        entries = entries-exactly .sound (shape .1 .1 .1 .1 .1 .0);
+        w15 = eq-exactly (W 15) (prefixLengthOf W) .sound (shape .0);
+        line = multiple-exactly (lineLengthOf W) .sound (shape .1 .0);
+        entries = entries-exactly .sound (shape .1 .1 .0);
         w34 = data-exactly .sound (place .0);
         w35 = nav-exactly .sound (place .1 .0);
         w63 = cal-exactly .sound (place .1 .1 .0);
@@ -89,13 +86,10 @@ module _ (told : ℕ) (W : ℕ → ℕ) where
   accepts-shapes : AcceptsAreaWords told W → Hold (areaShapeRules W)
   unfolding areaShapeRules
   accepts-shapes a =
-      also (multiple-exactly (W 49) .complete (a .multiple49))
-      (also (multiple-exactly (W 50) .complete (a .multiple50))
-      (also (multiple-exactly (W 51) .complete (a .multiple51))
-      (also (eq-exactly (W 15) (prefixLengthOf W) .complete (a .w15))
+      also (eq-exactly (W 15) (prefixLengthOf W) .complete (a .w15))
       (also (multiple-exactly (lineLengthOf W) .complete (a .line))
       (also (entries-exactly .complete (a .entries))
-      tt)))))
+      tt))
 
   accepts-places : AcceptsAreaWords told W → Hold (areaPlaceRules told W)
   unfolding areaPlaceRules

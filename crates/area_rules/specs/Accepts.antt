@@ -30,9 +30,6 @@ pub record AcceptsAreaWords (told : ℕ) (W : ℕ → ℕ) : Type 0 where
   pub w51 : (0 ≤ W 51) × (W 51 ≤ 65535)
   pub w61 : (0 ≤ W 61) × (W 61 ≤ 65535)
   pub w64 : (0 ≤ W 64) × (W 64 ≤ 65535)
-  pub multiple49 : W 49 % 4 ≡ 0
-  pub multiple50 : W 50 % 4 ≡ 0
-  pub multiple51 : W 51 % 4 ≡ 0
   pub w15 : W 15 ≡ prefixLengthOf W
   pub line : lineLengthOf W % 4 ≡ 0
   pub entries : (¬ (W 60 ≡ 0)) ⊎ (W 61 ≡ 0)

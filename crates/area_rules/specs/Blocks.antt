@@ -1,20 +1,21 @@
--- The blocks of an AREA file, and the regions of a line prefix: document 01, "AREA". How far NAV, CAL and AUX run is ruled there: "The directory
+-- The blocks of an AREA file, and the regions of a line prefix: document 01, "AREA", and for the padding document 02, request 4. How far NAV, CAL and AUX run is ruled there: "The directory
 -- gives no lengths: each runs to the next greater start among the present NAV, CAL, AUX and DATA, or else to the end of the file."
 -- Assumes nothing.
 use mathlib.Core.Path.{_≡_}
 use mathlib.Core.Bool.{Bool, true, not}
 use mathlib.Core.Logic.{_⊎_}
-use mathlib.Core.List.{List, [], _∷_}
+use mathlib.Core.List.{List, [], _∷_, _++_}
 use Prim.Native.Nat.{ℕ, _+_, _-_, _≤_, _<_}
 use lib.Dec.{ltb, eqb}
 use Rattle.lists.specs.Choices.{pick, both}
-use Rattle.area_rules.specs.Lines.{validityLength}
+use Rattle.lists.specs.Consecutive.{partLength, partOffset}
+use Rattle.area_rules.specs.Lines.{givenRegions}
 use Rattle.area_rules.specs.Samples.{lineStart, dataEndIn, auditEndIn}
 use Rattle.area_rules.specs.declared.AreaLayout.{AreaLayout}
 use Rattle.area_rules.specs.declared.Block.{Block}
 use Rattle.area_rules.specs.declared.Block.the-variants.{Dir, Nav, Cal, Aux, Data, Audit}
 use Rattle.area_rules.specs.declared.Region.{Region}
-use Rattle.area_rules.specs.declared.Region.the-variants.{Validity, Documentation, Calibration, BandList}
+use Rattle.area_rules.specs.declared.Region.the-variants.{Validity, Documentation, Calibration, BandList, Padding}
 
 -- ---- blocks
 
@@ -77,19 +78,26 @@ blockLength a b = blockEnd a b - blockStart a b
 
 -- ---- regions of a line prefix
 
+-- the lengths of the regions of a line prefix, in their order; the last is the padding: "behind the band list", and "handed back like a region" (document 02,
+-- request 4)
+abbrev pub regionLengths : AreaLayout → List ℕ
+regionLengths a = givenRegions (a .«no_validity_code») (a .documentation) (a .calibration) (a .«band_list») ++ a .padding ∷ []
+
+-- the place of a region among them, counted from 0
+abbrev pub regionIndex : Region → ℕ
+regionIndex Validity = 0
+regionIndex Documentation = 1
+regionIndex Calibration = 2
+regionIndex BandList = 3
+regionIndex Padding = 4
+
 -- how many bytes a region of a line prefix has
 abbrev pub regionLength : AreaLayout → Region → ℕ
-regionLength a Validity = validityLength (a .«no_validity_code»)
-regionLength a Documentation = a .documentation
-regionLength a Calibration = a .calibration
-regionLength a BandList = a .«band_list»
+regionLength a r = partLength (regionLengths a) (regionIndex r)
 
 -- how many bytes the regions before a region have
 abbrev pub regionOffset : AreaLayout → Region → ℕ
-regionOffset a Validity = 0
-regionOffset a Documentation = regionLength a Validity
-regionOffset a Calibration = regionLength a Validity + regionLength a Documentation
-regionOffset a BandList = regionLength a Validity + regionLength a Documentation + regionLength a Calibration
+regionOffset a r = partOffset (regionLengths a) (regionIndex r)
 
 -- the byte at which a region of the prefix of line l starts
 abbrev pub regionStart : AreaLayout → ℕ → Region → ℕ

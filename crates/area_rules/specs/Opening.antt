@@ -1,7 +1,7 @@
--- What opening an AREA file answers: document 01, "What comes back".
+-- What opening an AREA file answers: document 01, "What comes back", with the padding length of document 02, request 4.
 -- Assumes nothing.
 use mathlib.Core.Bool.{Bool}
-use mathlib.Core.List.{List, [], _∷_}
+use mathlib.Core.List.{List, [], _∷_, _++_}
 use Prim.Native.Nat.{ℕ}
 use lib.Dec.{eqb}
 use lib.ListN.{length}
@@ -11,7 +11,7 @@ use Rattle.lists.specs.Choices.{pick}
 use Rattle.refusal_rules.specs.Rules.{firstFault}
 use Rattle.refusal_rules.specs.Answers.{Answer, gives, refuses, answered}
 use Rattle.refusal_rules.specs.Tests.{sameNumbers}
-use Rattle.area_rules.specs.Rules.{directoryOf, wordIn, areaOrder, areaWordRules, areaRules}
+use Rattle.area_rules.specs.Rules.{directoryOf, wordIn, areaOrder, paddingLengthOf, areaWordRules, areaRules}
 use Rattle.area_rules.specs.Bands.{secondMap}
 use Rattle.area_rules.specs.declared.AreaLayout.{AreaLayout}
 use Rattle.area_rules.specs.declared.AreaOpening.{AreaOpening}
@@ -23,7 +23,7 @@ areaSays (Opened a) = gives a
 areaSays (Refused r) = refuses (r .number) (r .place)
 
 -- the layout that the words of a file of `told` bytes give: "W9, W10, W11, W14, W15, W19, W20 (0 unless W14 is above 32), W34, W35, W49, W50, W51,
--- W60, W63, W64, and whether W36 is 0"
+-- W60, W63, W64, and whether W36 is 0", and "the layout gains the padding length" (document 02, request 4)
 unfoldable pub areaLayoutOf : Order → ℕ → (ℕ → ℕ) → AreaLayout
 areaLayoutOf o told W =
     record {
@@ -41,6 +41,7 @@ areaLayoutOf o told W =
       documentation = W 49;
       calibration = W 50;
       «band_list» = W 51;
+      padding = paddingLengthOf W;
       aux = W 60;
       cal = W 63;
       cards = W 64;
@@ -63,7 +64,30 @@ openArea f = openAreaTold (length f) f
 abbrev pub flagNumber : Bool → ℕ
 flagNumber t = pick t 1 0
 
--- the fields of an AREA layout as numbers
+-- the fields of an AREA layout that line prefixes have, as numbers
+abbrev pub prefixNumbers : AreaLayout → List ℕ
+prefixNumbers a =
+    a .prefix
+    ∷ flagNumber (a .«no_validity_code»)
+    ∷ a .documentation
+    ∷ a .calibration
+    ∷ a .«band_list»
+    ∷ a .padding
+    ∷ []
+
+-- the band map of an AREA layout, the starts of its blocks and its comment cards, as numbers
+abbrev pub blockNumbers : AreaLayout → List ℕ
+blockNumbers a =
+    a .map
+    ∷ a .map2
+    ∷ a .«data_start»
+    ∷ a .nav
+    ∷ a .aux
+    ∷ a .cal
+    ∷ a .cards
+    ∷ []
+
+-- all fields of an AREA layout as numbers
 abbrev pub areaNumbers : AreaLayout → List ℕ
 areaNumbers a =
     orderNumber (a .order)
@@ -72,19 +96,7 @@ areaNumbers a =
     ∷ a .elements
     ∷ a .width
     ∷ a .bands
-    ∷ a .prefix
-    ∷ a .map
-    ∷ a .map2
-    ∷ a .«data_start»
-    ∷ a .nav
-    ∷ a .documentation
-    ∷ a .calibration
-    ∷ a .«band_list»
-    ∷ a .aux
-    ∷ a .cal
-    ∷ a .cards
-    ∷ flagNumber (a .«no_validity_code»)
-    ∷ []
+    ∷ (prefixNumbers a ++ blockNumbers a)
 
 -- whether two AREA layouts are the same in every field
 unfoldable pub sameArea : AreaLayout → AreaLayout → Bool

@@ -1,4 +1,4 @@
--- The opening checks of an AREA file: document 01, "AREA". Words are numbered from 1; word k is at byte 4(k - 1). W k stands for the raw
+-- The opening checks of an AREA file: document 01, "AREA", with the prefix of document 02, request 4. Words are numbered from 1; word k is at byte 4(k - 1). W k stands for the raw
 -- word k: the unsigned number that its 32 bits are. The checks are of a directory and a file length that is told; a file that is at hand tells its
 -- own.
 -- Assumes nothing.
@@ -14,7 +14,7 @@ use Rattle.lists.specs.Choices.{pick, both, either}
 use Rattle.lists.specs.Lists.{listOf}
 use Rattle.refusal_rules.specs.Rules.{Rule, rule}
 use Rattle.refusal_rules.specs.Tests.{within}
-use Rattle.area_rules.specs.Lines.{prefixLength, lineLength, auditEnd}
+use Rattle.area_rules.specs.Lines.{prefixLength, paddingLength, lineLength, auditEnd}
 
 -- ---- the directory
 
@@ -68,17 +68,19 @@ multipleOfFour n = eqb (n % 4) 0
 abbrev pub prefixLengthOf : (ℕ → ℕ) → ℕ
 prefixLengthOf W = prefixLength (eqb (W 36) 0) (W 49) (W 50) (W 51)
 
+-- the padding length that the words give
+abbrev pub paddingLengthOf : (ℕ → ℕ) → ℕ
+paddingLengthOf W = paddingLength (eqb (W 36) 0) (W 49) (W 50) (W 51)
+
 -- the line length that the words give
 abbrev pub lineLengthOf : (ℕ → ℕ) → ℕ
 lineLengthOf W = lineLength (W 15) (W 14) (W 10) (W 11)
 
--- the rules of the words that follow from others: "W49, W50, W51 as multiples of four; W15; line length (place 10); W61 zero if W60 is zero"
+-- the rules of the words that follow from others: "W15; line length (place 10); W61 zero if W60 is zero". "The multiple-of-four check on 49, 50 and 51 goes"
+-- (document 02, request 4).
 unfoldable pub areaShapeRules : (ℕ → ℕ) → List Rule
 areaShapeRules W =
-    rule (multipleOfFour (W 49)) 4 49
-    ∷ rule (multipleOfFour (W 50)) 4 50
-    ∷ rule (multipleOfFour (W 51)) 4 51
-    ∷ rule (eqb (W 15) (prefixLengthOf W)) 4 15
+    rule (eqb (W 15) (prefixLengthOf W)) 4 15
     ∷ rule (multipleOfFour (lineLengthOf W)) 4 10
     ∷ rule (either (not (eqb (W 60) 0)) (eqb (W 61) 0)) 4 61
     ∷ []

@@ -6,7 +6,7 @@ use mathlib.Core.Logic.{_⊎_}
 use mathlib.Core.List.{List}
 use Prim.Native.Nat.{ℕ, _+_, _*_, _%_, _≤_, _<_}
 use lib.ListN.{length}
-use Rattle.area_rules.specs.Lines.{prefixLength, lineLength, areaDataEnd, auditEnd}
+use Rattle.area_rules.specs.Lines.{prefixLength, paddingLength, lineLength, areaDataEnd, auditEnd}
 use Rattle.area_rules.specs.Accepts.{IsWidth}
 use Rattle.area_rules.specs.Rules.{areaOrder}
 use Rattle.area_rules.specs.declared.AreaLayout.{AreaLayout}
@@ -59,6 +59,7 @@ pub record AreaFits (a : AreaLayout) : Type 0 where
   pub band-list-to : a .«band_list» ≤ 65535
   pub cards-to : a .cards ≤ 65535
   pub prefix : a .prefix ≡ prefixLength (a .«no_validity_code») (a .documentation) (a .calibration) (a .«band_list»)
+  pub padding : a .padding ≡ paddingLength (a .«no_validity_code») (a .documentation) (a .calibration) (a .«band_list»)
   -- a line and its prefix are multiples of four
   pub prefix-four : a .prefix % 4 ≡ 0
   pub line-four : lineLengthIn a % 4 ≡ 0

@@ -1,5 +1,5 @@
--- The worked files P and B of document 01, and their layouts. "What isn't given is 0, or what its rule asks." The cases that document 01 marks stand together
--- in worked_cases.
+-- The worked files P and B of document 01, a file for the imager prefix of document 02, request 4, and their layouts. "What isn't given is 0, or what its rule
+-- asks." The cases that document 01 marks stand together in worked_cases.
 -- Assumes nothing.
 use mathlib.Core.Path.{_≡_}
 use mathlib.Core.List.{List, [], _∷_, _++_}
@@ -8,7 +8,8 @@ use Prim.Native.Nat.{ℕ, _-_}
 use lib.ListN.{length, replicate}
 use Rattle.endian_rules.specs.Files.{given, bytesOf}
 use Rattle.endian_rules.specs.declared.Order.the-variants.{Big}
-use Rattle.refusal_rules.specs.Answers.{gives}
+use Rattle.refusal_rules.specs.Answers.{gives, refuses}
+use Rattle.area_rules.specs.Lines.{prefixLength, paddingLength}
 use Rattle.area_rules.specs.Opening.{openArea}
 use Rattle.area_rules.specs.Samples.{sampleAddress}
 use Rattle.area_rules.specs.declared.AreaLayout.{AreaLayout}
@@ -67,6 +68,7 @@ layoutP =
       documentation = 0;
       calibration = 0;
       «band_list» = 0;
+      padding = 0;
       aux = 0;
       cal = 0;
       cards = 0;
@@ -91,16 +93,70 @@ layoutB =
       documentation = 8;
       calibration = 0;
       «band_list» = 4;
+      padding = 0;
       aux = 0;
       cal = 0;
       cards = 1;
       «no_validity_code» = false;
     }
 
--- they have the sizes that document 01 gives, and these layouts
+-- A file with the prefix of document 02, request 4, but for W15: 728 bytes, big, W2 = 4, W9 = 2, W10 = 4, W11 = 1, W14 = 1, W34 = 256, W36 = 1, W49 = 226.
+-- Each of its two lines has "226 with a validity code alone", and four samples.
+unfoldable pub fileImager : ℕ → List ℕ
+fileImager w15 =
+    bytesOf Big
+    (given 64
+    (W 2 4
+    ∷ W 9 2
+    ∷ W 10 4
+    ∷ W 11 1
+    ∷ W 14 1
+    ∷ W 15 w15
+    ∷ W 34 256
+    ∷ W 36 1
+    ∷ W 49 226
+    ∷ []))
+    ++ replicate 472 0
+
+-- "W15 is 232 and the padding 2"
+unfoldable pub imager : List ℕ
+imager = fileImager 232
+
+-- the layout of the imager file
+unfoldable pub layoutImager : AreaLayout
+layoutImager =
+    record {
+      order = Big;
+      length = 728;
+      lines = 2;
+      elements = 4;
+      width = 1;
+      bands = 1;
+      prefix = 232;
+      map = 0;
+      map2 = 0;
+      «data_start» = 256;
+      nav = 0;
+      documentation = 226;
+      calibration = 0;
+      «band_list» = 0;
+      padding = 2;
+      aux = 0;
+      cal = 0;
+      cards = 0;
+      «no_validity_code» = false;
+    }
+
+-- they have the sizes that document 01 gives, or that are said above, and these layouts
 pub record WorkedArea : Type 0 where
-  pub sizes : (length P ≡ 264) × (length B ≡ 520)
+  pub sizes : (length P ≡ 264) × ((length B ≡ 520) × (length imager ≡ 728))
   pub P-opens : openArea P ≡ gives layoutP
   pub B-opens : openArea B ≡ gives layoutB
+  pub imager-opens : openArea imager ≡ gives layoutImager
+  -- "For 226 with a validity code alone, W15 is 232 and the padding 2."
+  pub imager-prefix : (prefixLength false 226 0 0 ≡ 232) × (paddingLength false 226 0 0 ≡ 2)
+  -- so W15 is neither the sum nor the multiple of four below it, which is also 226 rounded up without the validity code
+  pub imager-sum : openArea (fileImager 230) ≡ refuses 4 15
+  pub imager-below : openArea (fileImager 228) ≡ refuses 4 15
   -- bands are interleaved: element 1 of slot 0 comes behind both slots of element 0
   pub B-interleaved : sampleAddress layoutB 0 1 0 ≡ 404

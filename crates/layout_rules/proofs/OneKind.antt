@@ -40,6 +40,10 @@ pub fresh-md : (f : List ℕ) (l : MdLayout) → Fresh f (Md l) ↔ (openMd (l .
 unfolding openAs
 fresh-md f l = mapped-gives Md (λ v w e. cc) (openMd (l .order) f) l
 
+-- an AREA layout with another padding than the one that opening gives, the other fields being what they may, is stale
+pub padding-stale : (f : List ℕ) (l m : AreaLayout) → openArea f ≡ gives l → ¬ (m .padding ≡ l .padding) → ¬ Fresh f (Area m)
+padding-stale f l m e other fresh = other (ap (λ (a : AreaLayout). a .padding) (gives-same (sym (fresh-area f m .0 fresh) ∙ e)))
+
 -- ---- a kind
 
 -- what a kind says of layouts: it gives those of its own, and refuses 7 to any other

@@ -64,7 +64,7 @@ const DATA: u32 = 9;
 // The word `audit`.
 const AUDIT: u32 = 10;
 
-// The word `validity-code LINE`, for a region of a line's prefix, as the three that follow.
+// The word `validity-code LINE`, for a region of a line's prefix, as the four that follow.
 const VALIDITY: u32 = 11;
 
 // The word `documentation LINE`.
@@ -76,29 +76,32 @@ const CALIBRATION: u32 = 13;
 // The word `band-list LINE`.
 const BAND_LIST: u32 = 14;
 
+// The word `padding LINE`.
+const PADDING: u32 = 15;
+
 // The word `point ROW COLUMN`.
-const POINT: u32 = 15;
+const POINT: u32 = 16;
 
 // The word `header`.
-const HEADER: u32 = 16;
+const HEADER: u32 = 17;
 
 // The word `field ROW COLUMN POSITION`.
-const FIELD: u32 = 17;
+const FIELD: u32 = 18;
 
 // The word `key NUMBER BYTES`: the name is the first bytes of the four bytes of a number in big order with four zeros behind them.
-const KEY: u32 = 18;
+const KEY: u32 = 19;
 
 // The word `by-columns PLACES`.
-const BY_COLUMNS: u32 = 19;
+const BY_COLUMNS: u32 = 20;
 
 // The word `by-rows PLACES`. `record PLACES ROW COLUMN` has the next, and is the last word that reads.
-const BY_ROWS: u32 = 20;
+const BY_ROWS: u32 = 21;
 
 // The word `store-sample LINE ELEMENT SLOT NUMBER`, the first word that stores.
-pub const STORE_SAMPLE: u32 = 22;
+pub const STORE_SAMPLE: u32 = 23;
 
 // The word `store-band LINE ELEMENT BAND NUMBER`.
-pub const STORE_BAND: u32 = 23;
+pub const STORE_BAND: u32 = 24;
 
 // The slot or band that a word speaks of.
 pub fn slot_or_band(call: u32, k: u32) -> SlotOrBand {
@@ -148,7 +151,8 @@ fn region_named(call: u32) -> Region {
         VALIDITY => Region::Validity,
         DOCUMENTATION => Region::Documentation,
         CALIBRATION => Region::Calibration,
-        _ => Region::BandList,
+        BAND_LIST => Region::BandList,
+        _ => Region::Padding,
     }
 }
 
@@ -230,7 +234,7 @@ fn ask_copy_of(file: &[u8], layout: Layout, call: u32, n: Numbers) {
 // Asks the call of a word that reads, and writes what came back.
 pub fn ask(file: &[u8], layout: Layout, call: u32, n: Numbers) {
     match call {
-        SAMPLE..=BAND_LIST => ask_area(file, layout, call, n),
+        SAMPLE..=PADDING => ask_area(file, layout, call, n),
         POINT => say_signed(read_point(file, layout, n.a, n.b)),
         HEADER => ask_header(file, layout),
         FIELD => say_signed(read_field(file, layout, n.a, n.b, n.c)),

@@ -35,13 +35,13 @@ use stores::store_point;
 use stores::store_sample;
 
 // The word `store-point ROW COLUMN NUMBER`. `store-field ROW COLUMN POSITION NUMBER` has the next number, and is the last word that stores.
-const STORE_POINT: u32 = 24;
+const STORE_POINT: u32 = 25;
 
 // The word `add ROWS COLUMNS FIRST VALUES BYTES`.
-pub const ADD: u32 = 27;
+pub const ADD: u32 = 28;
 
 // The word `add-short ROWS COLUMNS FIRST VALUES BYTES`.
-pub const ADD_SHORT: u32 = 28;
+pub const ADD_SHORT: u32 = 29;
 
 // Stores a number, with a layout, and writes what came back.
 pub fn store_value(file: &mut [u8], layout: Layout, call: u32, n: Numbers) {

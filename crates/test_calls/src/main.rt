@@ -50,52 +50,52 @@ use words::numbers_in;
 use words::word_number;
 
 // The word `store-field`, the last word of a call that is asked with a layout: the one that opening the file gave where it last gave one.
-const STORE_FIELD: u32 = 25;
+const STORE_FIELD: u32 = 26;
 
 // The word `delete NUMBER`.
-const DELETE: u32 = 26;
+const DELETE: u32 = 27;
 
 // The word `delete-short NUMBER`. Between this word and `delete` stand `add` and `add-short`.
-const DELETE_SHORT: u32 = 29;
+const DELETE_SHORT: u32 = 30;
 
 // The word `stretches`.
-const STRETCHES: u32 = 30;
+const STRETCHES: u32 = 31;
 
 // The word `word K` writes word K, counted from 0.
-const WORD: u32 = 31;
+const WORD: u32 = 32;
 
 // The word `date WORD`.
-const DATE: u32 = 32;
+const DATE: u32 = 33;
 
 // The word `time WORD`.
-const TIME: u32 = 33;
+const TIME: u32 = 34;
 
 // The word `words K=N ..` sets words, each by its number and its value. AREA counts words from 1, the others from 0.
-const WORDS: u32 = 34;
+const WORDS: u32 = 35;
 
 // The word `with K N NUMBER` opens the file with word K as N, where it is a GRID file the grid of a number.
-const WITH: u32 = 35;
+const WITH: u32 = 36;
 
 // The word `area LENGTH` makes an AREA file of a length in bytes, at most 16,484. Its directory holds 0, and each byte i behind it i modulo 256: a value shows where it was read.
-const AREA: u32 = 36;
+const AREA: u32 = 37;
 
 // The word `grid LENGTH` makes a GRID file likewise. Each word k holds k, and the bytes behind the last whole word what they held.
-const GRID: u32 = 37;
+const GRID: u32 = 38;
 
 // The word `md LENGTH` makes an MD file likewise.
-const MD: u32 = 38;
+const MD: u32 = 39;
 
 // The word `open NUMBER` opens the file, where it is a GRID file the grid of a number.
-const OPEN: u32 = 39;
+const OPEN: u32 = 40;
 
 // The word `keep` keeps a copy of the file, in place of the one before.
-const KEEP: u32 = 40;
+const KEEP: u32 = 41;
 
 // The word `restore` puts the bytes of the copy back, as many as both have.
-const RESTORE: u32 = 41;
+const RESTORE: u32 = 42;
 
 // The word `differences` writes each byte of the file that differs from the copy.
-const DIFFERENCES: u32 = 42;
+const DIFFERENCES: u32 = 43;
 
 // What a script is at: the kind of the file, as the word that makes it, and its length; the kind, the grid number and the length of the file that opening last gave a
 // layout for, whose bytes are kept; and the length of the copy that is kept.
@@ -345,9 +345,9 @@ fn run(text: &[u8]) {
     run_lines(&text[0..end], &text[end..], Order::Little);
 }
 
-// Reads a script of at most 16,384 bytes and runs it.
+// Reads a script of at most 32,768 bytes and runs it.
 fn main() {
-    let mut text = [0u8; 16384];
+    let mut text = [0u8; 32768];
     let taken = io::read_full(STDIN_FILENO, &mut text);
     run(&text[..taken]);
 }

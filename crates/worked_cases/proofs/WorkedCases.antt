@@ -10,9 +10,10 @@ use Rattle.refusal_rules.specs.Rules.{judge, first, firstFault}
 use Rattle.refusal_rules.specs.Tests.{within}
 use Rattle.area_rules.specs.Opening as area
 use Rattle.area_rules.specs.Blocks.{nextStart}
-use Rattle.area_rules.specs.Worked.{fileP, P, fileB, B, layoutP, layoutB}
+use Rattle.area_rules.specs.Worked.{fileP, P, fileB, B, layoutP, layoutB, fileImager, imager, layoutImager}
 use Rattle.area_rules.proofs.Worked.{worked-area}
 use Rattle.area_rules.specs.declared.Block.the-variants.{Nav}
+use Rattle.area_rules.specs.declared.Region.the-variants.{Documentation, Calibration, Padding}
 use Rattle.area_rules.specs.Rules as area-rules
 use Rattle.grid_rules.specs.Worked.{wordsG, fileG, G, layoutG}
 use Rattle.grid_rules.proofs.Worked.{worked-grid}
@@ -33,6 +34,7 @@ use Rattle.md_rules.specs.Bounds.{mdBounded}
 use Rattle.md_rules.specs.Places.{partRules, fieldRules, fieldPlace}
 use Rattle.value_rules.specs.Places.{placeOf}
 use Rattle.area_part_rules.specs.Blocks.{blockRules, blockOf}
+use Rattle.area_part_rules.specs.Regions.{regionRules, regionOf}
 use Rattle.worked_cases.specs.WorkedCases.{WorkedCases}
 
 pub worked-cases : WorkedCases
@@ -41,11 +43,12 @@ unfolding area.openArea area.openAreaTold area-rules.areaRules area-rules.areaWo
     grid-rules.slotRules grid-rules.ownRules grid-rules.headerRules grid-rules.sizeRules grid-rules.overlapRule grid-rules.meets grid-rules.shares
     grid-rules.wantedRules md.openMd md.openMdWords md-rules.mdRules md-rules.mdCountRules md-rules.mdSumRules md-rules.mdFixedRules md-rules.mdEndRules firstFault first
     judge within atLeast listOf wordAt numberAt decode encode value digits given bytesOf nextStart areaBounded gridBounded mdBounded sampleRules
-    samplePlace pointRules pointPlace partRules fieldRules fieldPlace fieldsOf fieldWord placeOf blockRules blockOf fileP P fileB B layoutP layoutB wordsG fileG G layoutG fileM
+    samplePlace pointRules pointPlace partRules fieldRules fieldPlace fieldsOf fieldWord placeOf blockRules blockOf regionRules regionOf fileP P fileB B layoutP layoutB fileImager imager layoutImager wordsG fileG G layoutG fileM
     layoutM
 worked-cases =
     let fresh-P = fresh-area P layoutP .1 (worked-area .P-opens) in
     let fresh-B = fresh-area B layoutB .1 (worked-area .B-opens) in
+    let fresh-imager = fresh-area imager layoutImager .1 (worked-area .imager-opens) in
     let fresh-G = fresh-grid G layoutG .1 (worked-grid .G-opens) in
     let fresh-M = fresh-md M layoutM .1 (worked-md .M-opens) in
     record {
@@ -59,6 +62,12 @@ worked-cases =
       B-nav = ap (λ x. andThen x (λ a. blockOf a Nav)) (found-fresh _ _ _ fresh-B) ∙ refl;
       B-nav-in-data = refl;
       B-prefix = refl;
+      imager-opens = worked-area .imager-opens;
+      imager-documentation = ap (λ x. andThen x (λ a. regionOf a 1 Documentation)) (found-fresh _ _ _ fresh-imager) ∙ refl;
+      imager-calibration = ap (λ x. andThen x (λ a. regionOf a 1 Calibration)) (found-fresh _ _ _ fresh-imager) ∙ refl;
+      imager-padding = ap (λ x. andThen x (λ a. regionOf a 1 Padding)) (found-fresh _ _ _ fresh-imager) ∙ refl;
+      imager-sample = found-fresh _ _ _ fresh-imager ∙ refl;
+      imager-sum = worked-area .imager-sum;
       G-point = found-fresh _ _ _ fresh-G ∙ refl;
       G-past-the-end = refl;
       G-overlap = worked-grid .overlap;

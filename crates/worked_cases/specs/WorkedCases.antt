@@ -1,13 +1,14 @@
--- The cases that document 01, "Worked files", marks to be proved, all of them, each with its text, and one more. They are stated of what the contracts of the public calls
--- cite: opening (openArea, openGrid, openMd), the place of a named value (placeIn), the extent of a block (blockSpan).
+-- The cases that document 01, "Worked files", marks to be proved, all of them, each with its text, and some more. They are stated of what the contracts of the public
+-- calls cite: opening (openArea, openGrid, openMd), the place of a named value (placeIn), the extent of a block (blockSpan) and of a prefix region (regionSpan).
 -- Assumes nothing.
 use mathlib.Core.Path.{_≡_}
 use lib.ListN.{take}
 use Rattle.endian_rules.specs.declared.Order.the-variants.{Big}
 use Rattle.refusal_rules.specs.Answers.{gives, refuses, place, wordPlace}
 use Rattle.area_rules.specs.Opening.{openArea}
-use Rattle.area_rules.specs.Worked.{P, fileB, B, layoutP, layoutB}
+use Rattle.area_rules.specs.Worked.{P, fileB, B, layoutP, layoutB, fileImager, imager, layoutImager}
 use Rattle.area_rules.specs.declared.Block.the-variants.{Nav}
+use Rattle.area_rules.specs.declared.Region.the-variants.{Documentation, Calibration, Padding}
 use Rattle.grid_rules.specs.Worked.{fileG, G, overlappingG, layoutG}
 use Rattle.grid_rules.specs.Opening.{openGrid}
 use Rattle.md_rules.specs.Opening.{openMd}
@@ -18,6 +19,7 @@ use Rattle.value_rules.specs.declared.ValueName.the-variants.{Sample, Point, Fi
 use Rattle.value_rules.specs.Reading.{placeIn}
 use Rattle.span_rules.specs.Spans.{span}
 use Rattle.area_part_rules.specs.Blocks.{blockSpan}
+use Rattle.area_part_rules.specs.Regions.{regionSpan}
 
 pub record WorkedCases : Type 0 where
   -- the layouts are those that opening gives
@@ -37,6 +39,15 @@ pub record WorkedCases : Type 0 where
   pub B-nav-in-data : openArea (fileB 384 16) ≡ refuses 5 35
   -- "B with W15=12: 4 at 15."
   pub B-prefix : openArea (fileB 256 12) ≡ refuses 4 15
+  -- "For 226 with a validity code alone, W15 is 232 and the padding 2" (document 02, request 4; document 01 does not mark these). In line 1, which starts at
+  -- byte 492, documentation is behind the four bytes of the validity code, the padding behind documentation, and the first sample behind the padding.
+  pub imager-opens : openArea imager ≡ gives layoutImager
+  pub imager-documentation : regionSpan imager (Area layoutImager) 1 Documentation ≡ gives (span 496 226)
+  pub imager-calibration : regionSpan imager (Area layoutImager) 1 Calibration ≡ refuses 6 0
+  pub imager-padding : regionSpan imager (Area layoutImager) 1 Padding ≡ gives (span 722 2)
+  pub imager-sample : placeIn imager (Area layoutImager) (Sample 1 0 (Slot 0)) ≡ gives (place 724 1)
+  -- W15 as the sum itself is refused
+  pub imager-sum : openArea (fileImager 230) ≡ refuses 4 15
   -- "G point (2,3): word 83."
   pub G-point : placeIn G (Grid layoutG) (Point 2 3) ≡ gives (wordPlace 83)
   -- "G's slot 2 set to 83: 5 at 12." A header at word 83 would end past the next free word: the test of overlap is not reached.

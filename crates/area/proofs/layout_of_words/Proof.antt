@@ -15,56 +15,71 @@ element-copy-out-second-map-2 c = search needs
 second-map-requires : tie.Need-second-map-requires
 second-map-requires c κs = search needs
 
-element-copy-out-t7 : tie.Need-element-copy-out-t7
-element-copy-out-t7 c = search needs
+element-copy-out-padding-length : tie.Need-element-copy-out-padding-length
+element-copy-out-padding-length c = search needs
 
-element-copy-out-t10 : tie.Need-element-copy-out-t10
-element-copy-out-t10 c = search needs
+element-copy-out-padding-length-2 : tie.Need-element-copy-out-padding-length-2
+element-copy-out-padding-length-2 c = search needs
 
-element-copy-out-t17 : tie.Need-element-copy-out-t17
-element-copy-out-t17 c = search needs
+element-copy-out-padding-length-3 : tie.Need-element-copy-out-padding-length-3
+element-copy-out-padding-length-3 c = search needs
 
-element-copy-out-t20 : tie.Need-element-copy-out-t20
-element-copy-out-t20 c = search needs
+element-copy-out-padding-length-4 : tie.Need-element-copy-out-padding-length-4
+element-copy-out-padding-length-4 c = search needs
 
-element-copy-out-t23 : tie.Need-element-copy-out-t23
-element-copy-out-t23 c = search needs
+padding-length-requires : tie.Need-padding-length-requires
+padding-length-requires c κs = search needs
 
-element-copy-out-t26 : tie.Need-element-copy-out-t26
-element-copy-out-t26 c = search needs
+element-copy-out-t8 : tie.Need-element-copy-out-t8
+element-copy-out-t8 c = search needs
 
-element-copy-out-t29 : tie.Need-element-copy-out-t29
-element-copy-out-t29 c = search needs
+element-copy-out-t22 : tie.Need-element-copy-out-t22
+element-copy-out-t22 c = search needs
 
-element-copy-out-t32 : tie.Need-element-copy-out-t32
-element-copy-out-t32 c = search needs
+element-copy-out-t19 : tie.Need-element-copy-out-t19
+element-copy-out-t19 c = search needs
 
-element-copy-out-t35 : tie.Need-element-copy-out-t35
-element-copy-out-t35 c = search needs
+element-copy-out-t11 : tie.Need-element-copy-out-t11
+element-copy-out-t11 c = search needs
 
-element-copy-out-t38 : tie.Need-element-copy-out-t38
-element-copy-out-t38 c = search needs
+element-copy-out-t33 : tie.Need-element-copy-out-t33
+element-copy-out-t33 c = search needs
 
-element-copy-out-t41 : tie.Need-element-copy-out-t41
-element-copy-out-t41 c = search needs
+element-copy-out-t36 : tie.Need-element-copy-out-t36
+element-copy-out-t36 c = search needs
 
-element-copy-out-t44 : tie.Need-element-copy-out-t44
-element-copy-out-t44 c = search needs
+element-copy-out-t39 : tie.Need-element-copy-out-t39
+element-copy-out-t39 c = search needs
 
-element-copy-out-t47 : tie.Need-element-copy-out-t47
-element-copy-out-t47 c = search needs
+element-copy-out-t42 : tie.Need-element-copy-out-t42
+element-copy-out-t42 c = search needs
 
-element-copy-out-t50 : tie.Need-element-copy-out-t50
-element-copy-out-t50 c = search needs
+element-copy-out-t45 : tie.Need-element-copy-out-t45
+element-copy-out-t45 c = search needs
 
-element-copy-out-t53 : tie.Need-element-copy-out-t53
-element-copy-out-t53 c = search needs
+element-copy-out-t48 : tie.Need-element-copy-out-t48
+element-copy-out-t48 c = search needs
+
+element-copy-out-t51 : tie.Need-element-copy-out-t51
+element-copy-out-t51 c = search needs
+
+element-copy-out-t54 : tie.Need-element-copy-out-t54
+element-copy-out-t54 c = search needs
+
+element-copy-out-t57 : tie.Need-element-copy-out-t57
+element-copy-out-t57 c = search needs
+
+element-copy-out-t60 : tie.Need-element-copy-out-t60
+element-copy-out-t60 c = search needs
+
+element-copy-out-t63 : tie.Need-element-copy-out-t63
+element-copy-out-t63 c = search needs
 
 returns : tie.Need-returns
 unfolding areaLayoutOf wordIn
 returns c =
-    let start = c .before .before .before .before .before .before .before .before .before in
-    rw (start .before .before .before .before .before .before .second-map .ensures)
+    let lengths = c .before .before .before .before .before .before .before .before .before .before .before .before .before .before .before in
+    rw (lengths .padding-length .ensures, lengths .before .before .before .before .before .second-map .ensures)
 
 pub layout-of-words-spec : {M : Type 1} → statement M
 layout-of-words-spec =
@@ -73,19 +88,24 @@ layout-of-words-spec =
     element-copy-out-second-map
     element-copy-out-second-map-2
     second-map-requires
-    element-copy-out-t7
-    element-copy-out-t10
-    element-copy-out-t17
-    element-copy-out-t20
-    element-copy-out-t23
-    element-copy-out-t26
-    element-copy-out-t29
-    element-copy-out-t32
-    element-copy-out-t35
-    element-copy-out-t38
-    element-copy-out-t41
-    element-copy-out-t44
-    element-copy-out-t47
-    element-copy-out-t50
-    element-copy-out-t53
+    element-copy-out-padding-length
+    element-copy-out-padding-length-2
+    element-copy-out-padding-length-3
+    element-copy-out-padding-length-4
+    padding-length-requires
+    element-copy-out-t8
+    element-copy-out-t22
+    element-copy-out-t19
+    element-copy-out-t11
+    element-copy-out-t33
+    element-copy-out-t36
+    element-copy-out-t39
+    element-copy-out-t42
+    element-copy-out-t45
+    element-copy-out-t48
+    element-copy-out-t51
+    element-copy-out-t54
+    element-copy-out-t57
+    element-copy-out-t60
+    element-copy-out-t63
     returns)

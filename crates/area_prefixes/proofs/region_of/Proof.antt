@@ -8,11 +8,11 @@ use Rattle.refusal_rules.specs.Rules.{firstFault, chained}
 use Rattle.refusal_rules.proofs.Answers.{gives-refuses, gives-same}
 use Rattle.refusal_rules.proofs.Tables.{by-table, pass-hold}
 use Rattle.area_rules.specs.Samples.{lineStart}
-use Rattle.area_rules.specs.Blocks.{regionOffset}
 use Rattle.area_rules.proofs.Regions.{region-prefix}
 use Rattle.area_rules.proofs.Samples.{line-inside}
 use Rattle.area_rules.proofs.Places.{line-start}
 use Rattle.span_rules.specs.Spans.{span}
+use Rattle.span_rules.specs.declared.Span.{Span}
 use Rattle.area_part_rules.specs.Regions.{regionRules, regionOf}
 use Rattle.area_part_rules.proofs.Regions.{region-hold}
 use borrow.Author.Needs.{needs}
@@ -20,18 +20,18 @@ use Rattle.area_prefixes.proofs.region_of.Statement.{statement}
 use Rattle.area_prefixes.proofs.region_of.Tie as tie
 
 verdict : (c : tie.After-check2)
-    → let a = c .before .before .before .before .args in c .check2 .result ≡ firstFault (regionRules (a .l) (a .line) (a .region))
+    → let a = c .before .before .before .before .before .args in c .check2 .result ≡ firstFault (regionRules (a .l) (a .line) (a .region))
 unfolding regionRules chained
-verdict c = by-table _ (rw (c .check2 .ensures, c .before .check .ensures, c .before .before .before .region-length .ensures))
+verdict c = by-table _ (rw (c .check2 .ensures, c .before .before .check .ensures, c .before .before .before .before .region-part .ensures))
 
 -- where it passes, there is such a line
-line : (c : tie.After-enum-told) → let a = c .before .before .before .before .before .before .args in a .line < a .l .lines
+line : (c : tie.After-enum-told) → let a = c .before .before .before .before .before .before .before .args in a .line < a .l .lines
 line c =
-    let a = c .before .before .before .before .before .before .args in
+    let a = c .before .before .before .before .before .before .before .args in
     region-hold (a .l) (a .line) (a .region) .0 (pass-hold _ (sym (verdict (c .before .before)) ∙ c .enum-told .given .1)) .0
 
-region-length-requires : tie.Need-region-length-requires
-region-length-requires c κs = search needs
+region-part-requires : tie.Need-region-part-requires
+region-part-requires c κs = search needs
 
 check-requires : tie.Need-check-requires
 check-requires c κs = search needs
@@ -54,27 +54,23 @@ enum-known-refusal-2 c = search needs
 enum-known-start : tie.Need-enum-known-start
 enum-known-start c = search needs
 
-region-offset-requires : tie.Need-region-offset-requires
-region-offset-requires c κs = search needs
-
 -- the start that was found
-found : (c : tie.After-known-told3) → let a = c .before .before .before .before .before .before .before .before .before .before .args in c .before .start .given .0 .0 ≡ lineStart (a .l) (a .line)
+found : (c : tie.After-known-told3) → let a = c .before .before .before .before .before .before .before .before .before .before .before .args in c .before .start .given .0 .0 ≡ lineStart (a .l) (a .line)
 found c =
-    let s = c .before .before .before .before .before .before .before .before .before .before in
+    let s = c .before .before .before .before .before .before .before .before .before .before .before in
     gives-same
     (ap sizeSays (sym (c .before .start .given .1))
     ∙ c .before .before .before .line-start .ensures
     ∙ line-start (s .args .l) (s .pre) (s .args .line) _ .1 (line (c .before .before .before .before), refl))
 
-add-t16 : tie.Need-add-t16
-add-t16 c =
-    let s = c .before .before .before .before .before .before .before .before .before .before .before in
+add-t15 : tie.Need-add-t15
+add-t15 c =
+    let s = c .before .before .before .before .before .before .before .before .before .before .before .before in
     let l = s .args .l in
-    let offset : c .region-offset .result ≡ regionOffset l (s .args .region) = c .region-offset .ensures in
     omega (
       arith,
       found (c .before),
-      offset,
+      ap (λ (x : Span). x .start) (c .before .before .before .before .before .before .before .before .before .before .before .region-part .ensures),
       s .good .0,
       region-prefix l (s .pre) (s .args .region),
       line-inside l (s .pre) (s .args .line) (line (c .before .before .before .before .before)),
@@ -87,7 +83,7 @@ returns c = rw (sym (verdict (c .before .before .before)) ∙ c .before .refusal
 
 returns-2 : tie.Need-returns-2
 returns-2 c =
-    let s = c .before .before .before .before .before .before .before .before .before .before in
+    let s = c .before .before .before .before .before .before .before .before .before .before .before in
     gives-refuses
     (sym (line-start (s .args .l) (s .pre) (s .args .line) (lineStart (s .args .l) (s .args .line)) .1 (line (c .before .before .before .before), refl))
     ∙ sym (c .before .before .before .line-start .ensures)
@@ -97,13 +93,13 @@ returns-3 : tie.Need-returns-3
 unfolding regionOf
 returns-3 c =
     rw (sym (verdict (c .before .before .before .before .before .before .before)) ∙ c .before .before .before .before .before .enum-told .given .1)
-    (λ t. gives (span (found (c .before) t + c .region-offset .ensures t) (c .before .before .before .before .before .before .before .before .before .before .region-length .ensures t)))
+    (λ t. gives (span (found (c .before) t + c .before .before .before .before .before .before .before .before .before .before .before .region-part .ensures t .start) (c .before .before .before .before .before .before .before .before .before .before .before .region-part .ensures t .length)))
 
 pub region-of-spec : {M : Type 1} → statement M
 region-of-spec =
     tie.close
     (tie.spec
-    region-length-requires
+    region-part-requires
     check-requires
     check-requires-2
     enum-known-refusal
@@ -111,8 +107,7 @@ region-of-spec =
     line-start-requires
     enum-known-refusal-2
     enum-known-start
-    region-offset-requires
-    add-t16
+    add-t15
     returns
     returns-2
     returns-3)
