@@ -48,6 +48,11 @@ index-only r s e = sym (at-index r) ∙ ap regionAt e ∙ at-index s
 
 -- ---- regions of a line prefix
 
+-- two regions of a prefix share no byte
+pub regions-apart : (l : AreaLayout) (i : ℕ) (r s : Region) → ¬ (r ≡ s)
+    → Apart (regionStart l i r) (regionLength l r) (regionStart l i s) (regionLength l s)
+regions-apart l i r s other = consecutive-apart (regionLengths l) (lineStart l i) (regionIndex r) (regionIndex s) (λ e. other (index-only r s e))
+
 -- byte x of a file is one of region r of the prefix of line i
 pub record InRegion (l : AreaLayout) (i : ℕ) (r : Region) (x : ℕ) : Type 0 where
   pub from : regionStart l i r ≤ x
@@ -56,11 +61,6 @@ pub record InRegion (l : AreaLayout) (i : ℕ) (r : Region) (x : ℕ) : Type 0 w
 -- where the part of its place has the byte
 part-region : (l : AreaLayout) (i : ℕ) (r : Region) (x : ℕ) → lineStart l i ≤ x → InPart (regionLengths l) (regionIndex r) (x - lineStart l i) → InRegion l i r x
 part-region l i r x h p = record { from = omega (arith, p .from); to = omega (arith, p .to, h) }
-
--- two regions of a prefix share no byte
-pub regions-apart : (l : AreaLayout) (i : ℕ) (r s : Region) → ¬ (r ≡ s)
-    → Apart (regionStart l i r) (regionLength l r) (regionStart l i s) (regionLength l s)
-regions-apart l i r s other = consecutive-apart (regionLengths l) (lineStart l i) (regionIndex r) (regionIndex s) (λ e. other (index-only r s e))
 
 module _ (l : AreaLayout) (fits : AreaFits l) where
   -- the padding has at most three bytes

@@ -38,8 +38,7 @@ pub fn is_prefix_length(
 ) -> bool
     ensures { λ r. ⌜ r ≡ eqb prefix (prefixLength «no_code» documentation calibration «band_list») ⌝ }
 {
-    let given = given_length(no_code, documentation, calibration, band_list);
-    prefix as usize == rounded_up(given)
+    prefix as usize == rounded_up(given_length(no_code, documentation, calibration, band_list))
 }
 
 // How many bytes of padding a line prefix has: what rounding up adds to the bytes of the regions before it.
