@@ -16,7 +16,7 @@ use span_rules::SpanAnswer;
 use span_steps::hand_back;
 ghost use mathlib.Core.Path.{_≡_};
 ghost use Prim.Native.Nat.{_≤_};
-ghost use Rattle.lists.specs.Consecutive.{total, partOffset};
+ghost use Rattle.lists.specs.Segments.{total, segmentOffset};
 ghost use Rattle.area_rules.specs.Blocks.{regionLengths, regionIndex, regionLength, regionOffset};
 ghost use Rattle.area_rules.specs.Samples.{AreaFits};
 ghost use Rattle.span_rules.specs.Spans.{span, spanSays, lentBytes, thatPart};
@@ -51,7 +51,7 @@ fn region_index(region: Region) -> usize
 // How many bytes the first k of them have together.
 fn offset_of(lengths: &[usize; 5], k: usize) -> usize
     requires { ⌜ (k ≤ 4) × (total (now lengths) ≤ 4294967295) ⌝ }
-    ensures { λ r. ⌜ r ≡ partOffset (now (lengths .entry)) k ⌝ }
+    ensures { λ r. ⌜ r ≡ segmentOffset (now (lengths .entry)) k ⌝ }
 {
     let mut offset: usize = 0;
     let mut i: usize = 0;
@@ -63,7 +63,7 @@ fn offset_of(lengths: &[usize; 5], k: usize) -> usize
 }
 
 // Where a region lies in a line prefix of an accepted file: how many bytes there are before it, and how many it has.
-fn region_part(l: AreaLayout, region: Region) -> Span
+fn region_in_prefix(l: AreaLayout, region: Region) -> Span
     requires { ⌜ AreaFits l ⌝ }
     ensures { λ r. ⌜ r ≡ span (regionOffset l region) (regionLength l region) ⌝ }
 {
@@ -80,7 +80,7 @@ fn region_of(l: AreaLayout, line: u32, region: Region) -> SpanAnswer
     requires { ⌜ AreaFits l ⌝ }
     ensures { λ r. ⌜ spanSays r ≡ regionOf l line region ⌝ }
 {
-    let part = region_part(l, region);
+    let part = region_in_prefix(l, region);
     let lines = check(Verdict::Pass, line < l.lines, NO_SUCH, 0);
     match check(lines, part.length != 0, ABSENT, 0) {
         Verdict::Fault(refusal) => SpanAnswer::Refused(refusal),

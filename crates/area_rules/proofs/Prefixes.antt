@@ -5,7 +5,7 @@ use mathlib.Core.Bool.{Bool, true, false}
 use mathlib.Core.Logic.{_↔_}
 use Prim.Native.Nat.{ℕ, _+_, _%_, _≤_, _<_}
 use native.Mathlib.Omega.{arith}
-use Rattle.lists.specs.Consecutive.{total}
+use Rattle.lists.specs.Segments.{total}
 use Rattle.area_rules.specs.Lines.{validityLength, givenRegions, roundedUp, prefixLength, paddingLength}
 
 -- m is n rounded up to a multiple of four: the only multiple of four from n to n + 3

@@ -6,8 +6,8 @@ use mathlib.Core.Logic.{_↔_, inl, inr, ⊎-elim}
 use Prim.Native.Nat.{ℕ, zero, suc, _+_, _-_, _≤_, _<_}
 use native.Mathlib.Omega.{arith}
 use Rattle.lists.specs.Lists.{Apart}
-use Rattle.lists.specs.Consecutive.{total}
-use Rattle.lists.proofs.Consecutive.{InPart, part-inside, consecutive-apart, consecutive-fill}
+use Rattle.lists.specs.Segments.{total}
+use Rattle.lists.proofs.Segments.{InSegment, segment-inside, segments-apart, segments-fill}
 use Rattle.area_rules.specs.Samples.{lineStart, sampleAddress, IsSample, AreaFits}
 use Rattle.area_rules.specs.Blocks.{regionLengths, regionIndex, regionLength, regionOffset, regionStart}
 use Rattle.area_rules.specs.declared.AreaLayout.{AreaLayout}
@@ -51,16 +51,16 @@ index-only r s e = sym (at-index r) ∙ ap regionAt e ∙ at-index s
 -- two regions of a prefix share no byte
 pub regions-apart : (l : AreaLayout) (i : ℕ) (r s : Region) → ¬ (r ≡ s)
     → Apart (regionStart l i r) (regionLength l r) (regionStart l i s) (regionLength l s)
-regions-apart l i r s other = consecutive-apart (regionLengths l) (lineStart l i) (regionIndex r) (regionIndex s) (λ e. other (index-only r s e))
+regions-apart l i r s other = segments-apart (regionLengths l) (lineStart l i) (regionIndex r) (regionIndex s) (λ e. other (index-only r s e))
 
 -- byte x of a file is one of region r of the prefix of line i
 pub record InRegion (l : AreaLayout) (i : ℕ) (r : Region) (x : ℕ) : Type 0 where
   pub from : regionStart l i r ≤ x
   pub to : x < regionStart l i r + regionLength l r
 
--- where the part of its place has the byte
-part-region : (l : AreaLayout) (i : ℕ) (r : Region) (x : ℕ) → lineStart l i ≤ x → InPart (regionLengths l) (regionIndex r) (x - lineStart l i) → InRegion l i r x
-part-region l i r x h p = record { from = omega (arith, p .from); to = omega (arith, p .to, h) }
+-- where the segment of its place has the byte
+segment-region : (l : AreaLayout) (i : ℕ) (r : Region) (x : ℕ) → lineStart l i ≤ x → InSegment (regionLengths l) (regionIndex r) (x - lineStart l i) → InRegion l i r x
+segment-region l i r x h p = record { from = omega (arith, p .from); to = omega (arith, p .to, h) }
 
 module _ (l : AreaLayout) (fits : AreaFits l) where
   -- the padding has at most three bytes
@@ -74,7 +74,7 @@ module _ (l : AreaLayout) (fits : AreaFits l) where
 
   -- a region is inside the prefix
   pub region-prefix : (r : Region) → regionOffset l r + regionLength l r ≤ l .prefix
-  region-prefix r = omega (arith, part-inside (regionLengths l) (regionIndex r), regions-total)
+  region-prefix r = omega (arith, segment-inside (regionLengths l) (regionIndex r), regions-total)
 
   -- a region of a line is inside DATA, and so inside the file
   pub region-inside : (i : ℕ) → i < l .lines → (r : Region) → regionStart l i r + regionLength l r ≤ l .length
@@ -85,9 +85,14 @@ module _ (l : AreaLayout) (fits : AreaFits l) where
   regions-fill i x = (
     λ p. let (r, at) = p in (omega (arith, at .from), omega (arith, at .to, region-prefix r)),
     λ p.
-        let (k, (is, at)) = consecutive-fill (regionLengths l) (x - lineStart l i) (omega (arith, p .0, p .1, regions-total)) in
-        (regionAt k, part-region l i (regionAt k) x (p .0) (subst (λ j. InPart (regionLengths l) j (x - lineStart l i)) (sym (index-at k is)) at)),
+        let (k, (is, at)) = segments-fill (regionLengths l) (x - lineStart l i) (omega (arith, p .0, p .1, regions-total)) in
+        (regionAt k, segment-region l i (regionAt k) x (p .0) (subst (λ j. InSegment (regionLengths l) j (x - lineStart l i)) (sym (index-at k is)) at)),
   )
+
+  -- the padding starts where the band list ends, and ends where the first sample starts
+  pub padding-there : (i : ℕ)
+      → (regionStart l i Padding ≡ regionStart l i BandList + regionLength l BandList) × (regionStart l i Padding + regionLength l Padding ≡ sampleAddress l i 0 0)
+  padding-there i = (omega arith, omega (arith, regions-total))
 
   -- no sample has a byte of a region of any line
   pub sample-region : (i e s : ℕ) → IsSample l i e s → (k : ℕ) (r : Region)

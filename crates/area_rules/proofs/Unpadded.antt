@@ -48,7 +48,7 @@ unpaddedShapeRules W =
     ∷ rule (either (not (eqb (W 60) 0)) (eqb (W 61) 0)) 4 61
     ∷ []
 
--- all its checks; those of length, W2, counts and places have stayed
+-- all its checks; those of length, W2, counts and places are the ones of `areaRules`
 unfoldable pub unpaddedRules : ℕ → List ℕ → List Rule
 unpaddedRules told d =
     rule (leb 256 told) 1 0

@@ -8,7 +8,7 @@ use mathlib.Core.List.{List, [], _∷_, _++_}
 use Prim.Native.Nat.{ℕ, _+_, _-_, _≤_, _<_}
 use lib.Dec.{ltb, eqb}
 use Rattle.lists.specs.Choices.{pick, both}
-use Rattle.lists.specs.Consecutive.{partLength, partOffset}
+use Rattle.lists.specs.Segments.{segmentLength, segmentOffset}
 use Rattle.area_rules.specs.Lines.{givenRegions}
 use Rattle.area_rules.specs.Samples.{lineStart, dataEndIn, auditEndIn}
 use Rattle.area_rules.specs.declared.AreaLayout.{AreaLayout}
@@ -93,11 +93,11 @@ regionIndex Padding = 4
 
 -- how many bytes a region of a line prefix has
 abbrev pub regionLength : AreaLayout → Region → ℕ
-regionLength a r = partLength (regionLengths a) (regionIndex r)
+regionLength a r = segmentLength (regionLengths a) (regionIndex r)
 
 -- how many bytes the regions before a region have
 abbrev pub regionOffset : AreaLayout → Region → ℕ
-regionOffset a r = partOffset (regionLengths a) (regionIndex r)
+regionOffset a r = segmentOffset (regionLengths a) (regionIndex r)
 
 -- the byte at which a region of the prefix of line l starts
 abbrev pub regionStart : AreaLayout → ℕ → Region → ℕ

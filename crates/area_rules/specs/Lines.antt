@@ -4,7 +4,7 @@ use mathlib.Core.Bool.{Bool}
 use mathlib.Core.List.{List, [], _∷_}
 use Prim.Native.Nat.{ℕ, _+_, _-_, _*_, _/_}
 use Rattle.lists.specs.Choices.{pick}
-use Rattle.lists.specs.Consecutive.{total}
+use Rattle.lists.specs.Segments.{total}
 
 -- the bytes of the validity code: "4 bytes if W36 is not 0, else none"; `noCode` is whether W36 is 0
 abbrev pub validityLength : Bool → ℕ

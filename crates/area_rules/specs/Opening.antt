@@ -64,7 +64,7 @@ openArea f = openAreaTold (length f) f
 abbrev pub flagNumber : Bool → ℕ
 flagNumber t = pick t 1 0
 
--- the fields of an AREA layout that line prefixes have, as numbers
+-- the fields of an AREA layout about its line prefixes, as numbers
 abbrev pub prefixNumbers : AreaLayout → List ℕ
 prefixNumbers a =
     a .prefix

@@ -8,4 +8,4 @@ pub mod Kept
 pub mod Every
 pub mod Rows
 pub mod Lowest
-pub mod Consecutive
+pub mod Segments

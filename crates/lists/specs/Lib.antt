@@ -1,4 +1,4 @@
 pub mod Choices
 pub mod Lists
 pub mod Lowest
-pub mod Consecutive
+pub mod Segments

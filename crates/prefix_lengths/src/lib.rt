@@ -3,7 +3,7 @@
 ghost use mathlib.Core.Path.{_≡_};
 ghost use Prim.Native.Nat.{_≤_};
 ghost use lib.Dec.{eqb};
-ghost use Rattle.lists.specs.Consecutive.{total};
+ghost use Rattle.lists.specs.Segments.{total};
 ghost use Rattle.area_rules.specs.Lines.{validityLength, givenRegions, roundedUp, prefixLength, paddingLength};
 
 // How many bytes the validity code of a line prefix has, none where W36 is 0.

@@ -4,13 +4,13 @@ use mathlib.Core.Path.{_≡_, refl, sym, ap, _∙_}
 use Prim.Native.Nat.{_-_, _≤_, zero-le}
 use native.Mathlib.Omega.{arith}
 use denote.Ref.{now}
-use Rattle.lists.specs.Consecutive.{partOffset}
-use Rattle.lists.proofs.Consecutive.{offset-next, part-inside}
+use Rattle.lists.specs.Segments.{segmentOffset}
+use Rattle.lists.proofs.Segments.{segment-next, segment-inside}
 use Rattle.area_prefixes.proofs.offset_of.Statement.{statement}
 use Rattle.area_prefixes.proofs.offset_of.Tie as tie
 
 abbrev Inv-loop : tie.InvT-loop
-Inv-loop lengths k offset₀ i₀ offset i = (i ≤ k) × (offset ≡ partOffset lengths i)
+Inv-loop lengths k offset₀ i₀ offset i = (i ≤ k) × (offset ≡ segmentOffset lengths i)
 
 abbrev μ-loop : tie.MeasureT-loop
 μ-loop lengths k offset₀ i₀ offset i = k - i
@@ -29,7 +29,7 @@ add-offset : tie.Need-add-offset Inv-loop μ-loop
 add-offset c =
     let l = c .before .before .loop in
     let s = c .before .before .before in
-    omega (arith, l .inv .1, part-inside (now (s .args .lengths)) (l .i), s .pre .1)
+    omega (arith, l .inv .1, segment-inside (now (s .args .lengths)) (l .i), s .pre .1)
 
 add-i : tie.Need-add-i Inv-loop μ-loop
 add-i c = omega arith
@@ -40,14 +40,14 @@ loop-less c = omega arith
 loop-again : tie.Need-loop-again Inv-loop μ-loop
 loop-again c =
     let l = c .before .before .loop in
-    (omega arith, rw (l .inv .1) (sym (offset-next (now (c .before .before .before .args .lengths)) (l .i))))
+    (omega arith, rw (l .inv .1) (sym (segment-next (now (c .before .before .before .args .lengths)) (l .i))))
 
 returns : tie.Need-returns Inv-loop μ-loop
 returns c =
     let l = c .before .loop in
     let s = c .before .before in
     let all : l .i ≡ s .args .k = omega arith in
-    l .inv .1 ∙ ap (partOffset (now (s .args .lengths))) all
+    l .inv .1 ∙ ap (segmentOffset (now (s .args .lengths))) all
 
 pub offset-of-spec : {M : Type 1} → statement M
 offset-of-spec =

@@ -22,7 +22,7 @@ use Rattle.area_prefixes.proofs.region_of.Tie as tie
 verdict : (c : tie.After-check2)
     → let a = c .before .before .before .before .before .args in c .check2 .result ≡ firstFault (regionRules (a .l) (a .line) (a .region))
 unfolding regionRules chained
-verdict c = by-table _ (rw (c .check2 .ensures, c .before .before .check .ensures, c .before .before .before .before .region-part .ensures))
+verdict c = by-table _ (rw (c .check2 .ensures, c .before .before .check .ensures, c .before .before .before .before .region-in-prefix .ensures))
 
 -- where it passes, there is such a line
 line : (c : tie.After-enum-told) → let a = c .before .before .before .before .before .before .before .args in a .line < a .l .lines
@@ -30,8 +30,8 @@ line c =
     let a = c .before .before .before .before .before .before .before .args in
     region-hold (a .l) (a .line) (a .region) .0 (pass-hold _ (sym (verdict (c .before .before)) ∙ c .enum-told .given .1)) .0
 
-region-part-requires : tie.Need-region-part-requires
-region-part-requires c κs = search needs
+region-in-prefix-requires : tie.Need-region-in-prefix-requires
+region-in-prefix-requires c κs = search needs
 
 check-requires : tie.Need-check-requires
 check-requires c κs = search needs
@@ -70,7 +70,7 @@ add-t15 c =
     omega (
       arith,
       found (c .before),
-      ap (λ (x : Span). x .start) (c .before .before .before .before .before .before .before .before .before .before .before .region-part .ensures),
+      ap (λ (x : Span). x .start) (c .before .before .before .before .before .before .before .before .before .before .before .region-in-prefix .ensures),
       s .good .0,
       region-prefix l (s .pre) (s .args .region),
       line-inside l (s .pre) (s .args .line) (line (c .before .before .before .before .before)),
@@ -93,13 +93,13 @@ returns-3 : tie.Need-returns-3
 unfolding regionOf
 returns-3 c =
     rw (sym (verdict (c .before .before .before .before .before .before .before)) ∙ c .before .before .before .before .before .enum-told .given .1)
-    (λ t. gives (span (found (c .before) t + c .before .before .before .before .before .before .before .before .before .before .before .region-part .ensures t .start) (c .before .before .before .before .before .before .before .before .before .before .before .region-part .ensures t .length)))
+    (λ t. gives (span (found (c .before) t + c .before .before .before .before .before .before .before .before .before .before .before .region-in-prefix .ensures t .start) (c .before .before .before .before .before .before .before .before .before .before .before .region-in-prefix .ensures t .length)))
 
 pub region-of-spec : {M : Type 1} → statement M
 region-of-spec =
     tie.close
     (tie.spec
-    region-part-requires
+    region-in-prefix-requires
     check-requires
     check-requires-2
     enum-known-refusal

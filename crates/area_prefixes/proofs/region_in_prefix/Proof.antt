@@ -1,10 +1,10 @@
--- `area_prefixes::region_part` meets its contract: the lengths of the regions add up to the prefix, so no sum of them is above a word.
+-- `area_prefixes::region_in_prefix` meets its contract: the lengths of the regions add up to the prefix, so no sum of them is above a word.
 -- Assumes nothing.
 use native.Mathlib.Omega.{arith}
 use Rattle.area_rules.proofs.Regions.{regions-total}
 use borrow.Author.Needs.{needs}
-use Rattle.area_prefixes.proofs.region_part.Statement.{statement}
-use Rattle.area_prefixes.proofs.region_part.Tie as tie
+use Rattle.area_prefixes.proofs.region_in_prefix.Statement.{statement}
+use Rattle.area_prefixes.proofs.region_in_prefix.Tie as tie
 
 region-lengths-requires : tie.Need-region-lengths-requires
 region-lengths-requires c κs = search needs
@@ -26,8 +26,8 @@ array-read-t11 c = search needs
 returns : tie.Need-returns
 returns c = rw (c .offset-of .ensures, c .before .before .before .region-lengths .ensures, c .before .before .region-index .ensures .0)
 
-pub region-part-spec : {M : Type 1} → statement M
-region-part-spec =
+pub region-in-prefix-spec : {M : Type 1} → statement M
+region-in-prefix-spec =
     tie.close
     (tie.spec
     region-lengths-requires
