@@ -1,4 +1,4 @@
-// The regions of a line prefix of an AREA file: where each lies, and its bytes handed back.
+// The regions of a line prefix of an AREA file, the padding among them: where each lies, and its bytes handed back.
 use area_places::line_start;
 use area_rules::AreaLayout;
 use area_rules::AreaOpening;
@@ -35,7 +35,7 @@ fn region_lengths(l: AreaLayout) -> [usize; 5]
     ]
 }
 
-// The place of a region among them, counted from 0.
+// The place of a region among the regions of a line prefix, counted from 0.
 fn region_index(region: Region) -> usize
     ensures { λ r. ⌜ (r ≡ regionIndex region) × (r ≤ 4) ⌝ }
 {
@@ -48,7 +48,7 @@ fn region_index(region: Region) -> usize
     }
 }
 
-// How many bytes the first k of them have together.
+// How many bytes the first k regions of a line prefix have together, by the lengths of all its regions.
 fn offset_of(lengths: &[usize; 5], k: usize) -> usize
     requires { ⌜ (k ≤ 4) × (total (now lengths) ≤ 4294967295) ⌝ }
     ensures { λ r. ⌜ r ≡ segmentOffset (now (lengths .entry)) k ⌝ }
@@ -94,7 +94,7 @@ fn region_of(l: AreaLayout, line: u32, region: Region) -> SpanAnswer
     }
 }
 
-// Where a region of the prefix of a line, counted from 0, of an AREA file lies: start and length in bytes. Refused with 9 where the layout is stale, then with
+// Where a region of the prefix of a line, counted from 0, of an AREA file lies, or its padding: start and length in bytes. Refused with 9 where the layout is stale, then with
 // 7 where it is of another kind, then with 7 where there is no such line, then with 6 where the region has length 0.
 pub fn region_span(file: &[u8], layout: Layout, line: u32, region: Region) -> SpanAnswer
     ensures { λ r. ⌜ spanSays r ≡ regionSpan (now (file .entry)) layout line region ⌝ }

@@ -16,9 +16,9 @@ use Rattle.area_rules.specs.declared.Region.the-variants.{Validity, Docu
 use Rattle.area_rules.proofs.Prefixes.{padding-most, padding-rest}
 use Rattle.area_rules.proofs.Samples.{line-inside, sample-prefix}
 
--- ---- which region is at which place of the list
+-- ---- which region is at which place of the list of lengths
 
--- the region at a place
+-- the region at a place of the list
 abbrev regionAt : ℕ → Region
 regionAt zero = Validity
 regionAt (suc zero) = Documentation
@@ -26,7 +26,7 @@ regionAt (suc (suc zero)) = Calibration
 regionAt (suc (suc (suc zero))) = BandList
 regionAt (suc (suc (suc (suc k)))) = Padding
 
--- is the one whose place it is
+-- the region at the place of a region is that one
 at-index : (r : Region) → regionAt (regionIndex r) ≡ r
 at-index Validity = refl
 at-index Documentation = refl
@@ -34,7 +34,7 @@ at-index Calibration = refl
 at-index BandList = refl
 at-index Padding = refl
 
--- and every place is that of a region
+-- every place of the list is that of the region there
 index-at : (k : ℕ) → k < 5 → regionIndex (regionAt k) ≡ k
 index-at zero h = refl
 index-at (suc zero) h = refl
@@ -42,7 +42,7 @@ index-at (suc (suc zero)) h = refl
 index-at (suc (suc (suc zero))) h = refl
 index-at (suc (suc (suc (suc k)))) h = omega arith
 
--- a place settles the region
+-- two regions at one place are the same
 index-only : (r s : Region) → regionIndex r ≡ regionIndex s → r ≡ s
 index-only r s e = sym (at-index r) ∙ ap regionAt e ∙ at-index s
 

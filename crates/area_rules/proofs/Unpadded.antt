@@ -48,7 +48,7 @@ unpaddedShapeRules W =
     ∷ rule (either (not (eqb (W 60) 0)) (eqb (W 61) 0)) 4 61
     ∷ []
 
--- all its checks; those of length, W2, counts and places are the ones of `areaRules`
+-- all checks of document 01 alone; those of length, W2, counts and places are the ones of `areaRules`
 unfoldable pub unpaddedRules : ℕ → List ℕ → List Rule
 unpaddedRules told d =
     rule (leb 256 told) 1 0
@@ -56,7 +56,7 @@ unpaddedRules told d =
     ∷ rule (either (readsFour Big d) (readsFour Little d)) 2 2
     ∷ (let W : ℕ → ℕ = wordIn (directoryOf (areaOrder d) d) in (areaCountRules W ++ unpaddedShapeRules W) ++ areaPlaceRules told W)
 
--- its layout, as one with a padding of 0
+-- the layout of document 01 alone, as one with a padding of 0
 unfoldable pub unpaddedLayoutOf : Order → ℕ → (ℕ → ℕ) → AreaLayout
 unpaddedLayoutOf o told W =
     record {
@@ -85,7 +85,7 @@ unpaddedLayoutOf o told W =
 unfoldable pub openUnpadded : List ℕ → Answer AreaLayout
 openUnpadded f = answered (firstFault (unpaddedRules (length f) f)) (unpaddedLayoutOf (areaOrder f) (length f) (wordIn (directoryOf (areaOrder f) f)))
 
--- ---- what it accepts
+-- ---- what document 01 alone accepts
 
 -- W49, W50 and W51 are multiples of four
 pub record Fourfold (w49 w50 w51 : ℕ) : Type 0 where
@@ -94,20 +94,21 @@ pub record Fourfold (w49 w50 w51 : ℕ) : Type 0 where
   pub band-list : w51 % 4 ≡ 0
 
 module _ (W : ℕ → ℕ) where
-  -- then the prefix length is the sum itself
+  -- where W49, W50 and W51 are multiples of four, the prefix length is the sum itself
   fourfold-prefix : Fourfold (W 49) (W 50) (W 51) → prefixLengthOf W ≡ codeLength W + W 49 + W 50 + W 51
   fourfold-prefix f =
       sym (rounded-itself _ (omega (arith, f .documentation, f .calibration, f .band-list, code-four (eqb (W 36) 0)))) ∙ omega arith
 
-  -- and nothing is left over
+  -- the padding is then 0
   fourfold-padding : Fourfold (W 49) (W 50) (W 51) → paddingLengthOf W ≡ 0
   fourfold-padding f = omega (arith, fourfold-prefix f)
 
+  -- and the layouts are the same
   fourfold-layout : (o : Order) (told : ℕ) → Fourfold (W 49) (W 50) (W 51) → unpaddedLayoutOf o told W ≡ areaLayoutOf o told W
   unfolding unpaddedLayoutOf areaLayoutOf
   fourfold-layout o told f = rw (fourfold-padding f)
 
-  -- the rules of the words that follow from others
+  -- document 01's rules of the words that follow from others hold exactly where those three are multiples of four and the rules of request 4 hold
   shapes-exactly : Hold (unpaddedShapeRules W) ↔ (Fourfold (W 49) (W 50) (W 51) × Hold (areaShapeRules W))
   unfolding unpaddedShapeRules areaShapeRules
   shapes-exactly =
@@ -134,7 +135,7 @@ module _ (W : ℕ → ℕ) where
 abbrev pub wordsOf : List ℕ → ℕ → ℕ
 wordsOf f = wordIn (directoryOf (areaOrder f) f)
 
--- all rules
+-- and so do all its rules
 rules-exactly : (told : ℕ) (d : List ℕ) → Hold (unpaddedRules told d) ↔ (Fourfold (wordsOf d 49) (wordsOf d 50) (wordsOf d 51) × Hold (areaRules told d))
 unfolding unpaddedRules areaRules areaWordRules areaDescribedRules
 rules-exactly told d =
@@ -175,7 +176,7 @@ unpadded-exactly f l =
           x .1 (rules-exactly (length f) f .1 (four, hold), same ∙ sym (fourfold-layout W o (length f) four)),
     )
 
--- ---- where its samples, regions and blocks are
+-- ---- where document 01 alone has samples, regions and blocks
 
 -- the byte at which a block starts, by document 01
 abbrev pub unpaddedBlockStart : (ℕ → ℕ) → Block → ℕ
@@ -220,7 +221,7 @@ module _ (o : Order) (told : ℕ) (W : ℕ → ℕ) where
   blocks-there Data = (refl, refl)
   blocks-there Audit = (refl, refl)
 
-  -- so are those of the layout that document 01 alone gives
+  -- the parts of the layout that document 01 alone gives are there
   layout-places : UnpaddedPlaces told W (unpaddedLayoutOf o told W)
   unfolding unpaddedLayoutOf
   layout-places =
@@ -235,7 +236,7 @@ module _ (o : Order) (told : ℕ) (W : ℕ → ℕ) where
         blocks = blocks-there;
       }
 
--- and so those of a file that it accepts
+-- and so are those of a file that document 01 alone accepts
 pub unpadded-places : (f : List ℕ) (l : AreaLayout) → openUnpadded f ≡ gives l → UnpaddedPlaces (length f) (wordsOf f) l
 unfolding openUnpadded
 unpadded-places f l e =

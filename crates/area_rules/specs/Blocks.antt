@@ -83,7 +83,7 @@ blockLength a b = blockEnd a b - blockStart a b
 abbrev pub regionLengths : AreaLayout → List ℕ
 regionLengths a = givenRegions (a .«no_validity_code») (a .documentation) (a .calibration) (a .«band_list») ++ a .padding ∷ []
 
--- the place of a region among them, counted from 0
+-- the place of a region in the list of lengths, counted from 0
 abbrev pub regionIndex : Region → ℕ
 regionIndex Validity = 0
 regionIndex Documentation = 1
