@@ -11,11 +11,16 @@ use Prim.Native.Nat.{ℕ, _+_, _*_, _%_}
 use native.Mathlib.Omega.{arith}
 use lib.Dec.{leb, eqb}
 use lib.ListN.{length}
+use Rattle.endian_rules.specs.Numbers.{value, digits, decode, encode, numberAt}
+use Rattle.endian_rules.specs.Words.{wordAt, atLeast}
+use Rattle.endian_rules.specs.Files.{given, bytesOf}
 use Rattle.endian_rules.specs.declared.Order.{Order}
 use Rattle.endian_rules.specs.declared.Order.the-variants.{Big, Little}
 use Rattle.lists.specs.Choices.{either}
-use Rattle.refusal_rules.specs.Rules.{Rule, rule, firstFault, Hold}
-use Rattle.refusal_rules.specs.Answers.{Answer, gives, answered}
+use Rattle.lists.specs.Lists.{listOf}
+use Rattle.refusal_rules.specs.Rules.{Rule, rule, judge, first, firstFault, Hold}
+use Rattle.refusal_rules.specs.Tests.{within}
+use Rattle.refusal_rules.specs.Answers.{Answer, gives, refuses, answered}
 use Rattle.refusal_rules.proofs.Answers.{value-exactly}
 use Rattle.refusal_rules.proofs.Exactness.{eq-exactly}
 use Rattle.refusal_rules.proofs.Tables.{hold-append}
@@ -25,6 +30,7 @@ use Rattle.area_rules.specs.Rules.{directoryOf, wordIn, readsFour, areaO
 use Rattle.area_rules.specs.Opening.{areaLayoutOf, openAreaTold, openArea}
 use Rattle.area_rules.specs.Samples.{lineStart, sampleAddress}
 use Rattle.area_rules.specs.Blocks.{blockStart, blockEnd, nextStart, regionLength, regionStart}
+use Rattle.area_rules.specs.Worked.{fileImager, imager}
 use Rattle.area_rules.specs.declared.AreaLayout.{AreaLayout}
 use Rattle.area_rules.specs.declared.Block.{Block}
 use Rattle.area_rules.specs.declared.Block.the-variants.{Dir, Nav, Cal, Aux, Data, Audit}
@@ -242,3 +248,10 @@ unfolding openUnpadded
 unpadded-places f l e =
     subst (UnpaddedPlaces (length f) (wordsOf f)) (sym (value-exactly (unpaddedRules (length f) f) _ l .0 e .1))
     (layout-places (areaOrder f) (length f) (wordsOf f))
+
+-- ---- a file that document 01 alone refuses
+
+-- "a documentation length of 226 .., which document 01 refuses at word 49" (document 02, request 4)
+pub imager-unpadded : openUnpadded imager ≡ refuses 4 49
+unfolding openUnpadded unpaddedRules unpaddedShapeRules areaCountRules areaPlaceRules directoryOf wordIn firstFault first judge within atLeast listOf wordAt numberAt decode encode value digits given bytesOf fileImager imager
+imager-unpadded = refl
