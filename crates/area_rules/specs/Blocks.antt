@@ -1,5 +1,6 @@
--- The blocks of an AREA file, and the regions of a line prefix: document 01, "AREA", and for the padding document 02, request 4. How far NAV, CAL and AUX run is ruled there: "The directory
--- gives no lengths: each runs to the next greater start among the present NAV, CAL, AUX and DATA, or else to the end of the file."
+-- The blocks of an AREA file, and the regions of a line prefix: document 01, "AREA", and for the padding document 02, request 4. How far NAV, CAL and AUX
+-- run is ruled in document 01: "The directory gives no lengths: each runs to the next greater start among the present NAV, CAL, AUX and DATA, or else to the
+-- end of the file."
 -- Assumes nothing.
 use mathlib.Core.Path.{_≡_}
 use mathlib.Core.Bool.{Bool, true, not}

@@ -1,6 +1,6 @@
--- The opening checks of an AREA file: document 01, "AREA", with the prefix of document 02, request 4. Words are numbered from 1; word k is at byte 4(k - 1). W k stands for the raw
--- word k: the unsigned number that its 32 bits are. The checks are of a directory and a file length that is told; a file that is at hand tells its
--- own.
+-- The opening checks of an AREA file: document 01, "AREA", with the prefix of document 02, request 4. Words are numbered from 1; word k is at byte 4(k - 1).
+-- W k stands for the raw word k: the unsigned number that its 32 bits are. The checks are of a directory and a file length that is told; a file that is at
+-- hand tells its own.
 -- Assumes nothing.
 use mathlib.Core.Bool.{Bool, true, not}
 use mathlib.Core.List.{List, [], _∷_, _++_}
@@ -76,8 +76,8 @@ paddingLengthOf W = paddingLength (eqb (W 36) 0) (W 49) (W 50) (W 51)
 abbrev pub lineLengthOf : (ℕ → ℕ) → ℕ
 lineLengthOf W = lineLength (W 15) (W 14) (W 10) (W 11)
 
--- the rules of the words that follow from others: "W15; line length (place 10); W61 zero if W60 is zero". "The multiple-of-four check on 49, 50 and 51 goes"
--- (document 02, request 4).
+-- the rules of the words that follow from others: "W15; line length (place 10); W61 zero if W60 is zero"; of document 01's list "the multiple-of-four check
+-- on 49, 50 and 51 goes" (document 02, request 4)
 unfoldable pub areaShapeRules : (ℕ → ℕ) → List Rule
 areaShapeRules W =
     rule (eqb (W 15) (prefixLengthOf W)) 4 15
