@@ -21,7 +21,6 @@ use Rattle.area_rules.specs.Accepts.{BlockStartFits, AcceptsAreaWords}
 use Rattle.area_rules.specs.Samples.{IsBlockStart, AreaFits, AreaOf}
 use Rattle.area_rules.specs.declared.AreaLayout.{AreaLayout}
 use Rattle.area_rules.proofs.Acceptance.{told-exactly, area-exactly}
-use Rattle.area_rules.proofs.Prefixes.{rounded-exactly}
 
 -- a block that is not absent starts where its rule asks
 module _ (told start end x : ℕ) {Unequal : Type 0} (h : BlockStartFits told start end x Unequal) (there : ¬ (x ≡ 0)) where
@@ -51,7 +50,6 @@ words-fit told o W a =
       cards-to = a .w64 .1;
       prefix = a .w15;
       padding = refl;
-      prefix-four = rounded-exactly _ (W 15) .0 (a .w15) .four;
       line-four = a .line;
       second-map = λ h. ap (λ t. pick t 0 (W 20)) (le-leb (W 14) 32 h);
       data-start-from = data-start .0;

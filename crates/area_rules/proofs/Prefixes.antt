@@ -14,7 +14,7 @@ pub record IsRoundedUp (n m : ℕ) : Type 0 where
   pub from : n ≤ m
   pub to : m < n + 4
 
--- the formula says exactly that
+-- `roundedUp` is exactly that
 pub rounded-exactly : (n m : ℕ) → (m ≡ roundedUp n) ↔ IsRoundedUp n m
 rounded-exactly n m =
     (λ e. record { four = omega (arith, e); from = omega (arith, e); to = omega (arith, e) }, λ r. omega (arith, r .four, r .from, r .to))

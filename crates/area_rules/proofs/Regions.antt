@@ -58,7 +58,7 @@ pub record InRegion (l : AreaLayout) (i : ℕ) (r : Region) (x : ℕ) : Type 0 w
   pub from : regionStart l i r ≤ x
   pub to : x < regionStart l i r + regionLength l r
 
--- where the segment of its place has the byte
+-- a byte in the segment at the place of a region is one of that region
 segment-region : (l : AreaLayout) (i : ℕ) (r : Region) (x : ℕ) → lineStart l i ≤ x → InSegment (regionLengths l) (regionIndex r) (x - lineStart l i) → InRegion l i r x
 segment-region l i r x h p = record { from = omega (arith, p .from); to = omega (arith, p .to, h) }
 

@@ -11,6 +11,7 @@ use Rattle.area_rules.specs.Accepts.{IsWidth}
 use Rattle.area_rules.specs.Samples.{lineLengthIn, dataEndIn, lineStart, sampleAddress, IsSample, AreaFits}
 use Rattle.area_rules.specs.declared.AreaLayout.{AreaLayout}
 use Rattle.area_rules.proofs.Counts.{by-width, width-bounds}
+use Rattle.area_rules.proofs.Prefixes.{rounded-exactly}
 
 -- bands are interleaved within each element: the next slot of an element is the next sample of the line
 pub sample-next : (l : AreaLayout) (i e s : ℕ) → sampleAddress l i e (s + 1) ≡ sampleAddress l i e s + l .width
@@ -70,7 +71,7 @@ module _ (l : AreaLayout) (fits : AreaFits l) where
     pub sample-lattice : (j : ℕ) × (sampleAddress l i e s ≡ l .«data_start» + j * l .width)
     sample-lattice =
         let line = four-width (lineLengthIn l) (l .width) (fits .width) (fits .line-four) in
-        let prefix = four-width (l .prefix) (l .width) (fits .width) (fits .prefix-four) in
+        let prefix = four-width (l .prefix) (l .width) (fits .width) (rounded-exactly _ (l .prefix) .0 (fits .prefix) .four) in
         (i * line .0 + prefix .0 + (e * l .bands + s), lattice (line .0) (prefix .0) (line .1) (prefix .1))
       where
         lattice : (p q : ℕ) → lineLengthIn l ≡ p * l .width → l .prefix ≡ q * l .width

@@ -105,16 +105,16 @@ module _ (W : ℕ → ℕ) where
   fourfold-prefix f =
       sym (rounded-itself _ (omega (arith, f .documentation, f .calibration, f .band-list, code-four (eqb (W 36) 0)))) ∙ omega arith
 
-  -- the padding is then 0
+  -- where they are multiples of four, the padding is 0
   fourfold-padding : Fourfold (W 49) (W 50) (W 51) → paddingLengthOf W ≡ 0
   fourfold-padding f = omega (arith, fourfold-prefix f)
 
-  -- and the layouts are the same
+  -- where they are multiples of four, the layout of document 01 alone is the one of `areaLayoutOf`
   fourfold-layout : (o : Order) (told : ℕ) → Fourfold (W 49) (W 50) (W 51) → unpaddedLayoutOf o told W ≡ areaLayoutOf o told W
   unfolding unpaddedLayoutOf areaLayoutOf
   fourfold-layout o told f = rw (fourfold-padding f)
 
-  -- document 01's rules of the words that follow from others hold exactly where those three are multiples of four and the rules of request 4 hold
+  -- document 01's rules of the words that follow from others hold exactly where W49, W50 and W51 are multiples of four and those of request 4 hold
   shapes-exactly : Hold (unpaddedShapeRules W) ↔ (Fourfold (W 49) (W 50) (W 51) × Hold (areaShapeRules W))
   unfolding unpaddedShapeRules areaShapeRules
   shapes-exactly =
@@ -141,7 +141,7 @@ module _ (W : ℕ → ℕ) where
 abbrev pub wordsOf : List ℕ → ℕ → ℕ
 wordsOf f = wordIn (directoryOf (areaOrder f) f)
 
--- and so do all its rules
+-- all rules of document 01 alone hold exactly where W49, W50 and W51 are multiples of four and all rules of `areaRules` hold
 rules-exactly : (told : ℕ) (d : List ℕ) → Hold (unpaddedRules told d) ↔ (Fourfold (wordsOf d 49) (wordsOf d 50) (wordsOf d 51) × Hold (areaRules told d))
 unfolding unpaddedRules areaRules areaWordRules areaDescribedRules
 rules-exactly told d =

@@ -60,8 +60,7 @@ pub record AreaFits (a : AreaLayout) : Type 0 where
   pub cards-to : a .cards ≤ 65535
   pub prefix : a .prefix ≡ prefixLength (a .«no_validity_code») (a .documentation) (a .calibration) (a .«band_list»)
   pub padding : a .padding ≡ paddingLength (a .«no_validity_code») (a .documentation) (a .calibration) (a .«band_list»)
-  -- a line and its prefix are multiples of four
-  pub prefix-four : a .prefix % 4 ≡ 0
+  -- a line is a multiple of four
   pub line-four : lineLengthIn a % 4 ≡ 0
   -- W20 counts only where there are more than 32 bands
   pub second-map : a .bands ≤ 32 → a .map2 ≡ 0

@@ -47,7 +47,8 @@ pub enum Block {
     Audit,
 }
 
-// The regions of a line prefix, in their order. The padding fills the prefix up to a multiple of four.
+// The regions of a line prefix, in their order. The padding fills the prefix up to a multiple of four. "Region" is document 01's term for each of these stretches of
+// a prefix, and "padding" document 02's.
 pub enum Region {
     Validity,
     Documentation,

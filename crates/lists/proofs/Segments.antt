@@ -22,7 +22,7 @@ segment-suc (n ∷ ns) (suc k) = omega (arith, segment-suc ns k)
 pub segment-next : (ns : List ℕ) (k : ℕ) → segmentOffset ns (k + 1) ≡ segmentOffset ns k + segmentLength ns k
 segment-next ns k = let next : k + 1 ≡ suc k = omega arith in ap (segmentOffset ns) next ∙ segment-suc ns k
 
--- every later one starts there or behind it
+-- a later segment starts at the end of an earlier one, or behind it
 pub segment-before : (ns : List ℕ) (j k : ℕ) → j < k → segmentOffset ns j + segmentLength ns j ≤ segmentOffset ns k
 segment-before [] zero (suc k) h = omega arith
 segment-before [] (suc j) (suc k) h = omega arith
