@@ -1,8 +1,8 @@
 // AREA files, images: opening a file, and comparing layouts.
 ghost use Rattle.std.specs.Prelude.{◌≡◌, ◌≤◌, ◌++◌, length};
 ghost use Rattle.refusal_rules.specs.Tests.{same_numbers};
-ghost use Rattle.area_rules.specs.Rules.{directoryOf, word_in};
-ghost use Rattle.area_rules.specs.Opening.{areaLayoutOf, areaSays, openAreaWords, openAreaTold, openArea, flagNumber, prefixNumbers, blockNumbers, sameArea};
+ghost use Rattle.area_rules.specs.Rules.{directory_of, word_in};
+ghost use Rattle.area_rules.specs.Opening.{area_layout_of, area_says, open_area_words, open_area_told, open_area, flag_number, prefix_numbers, block_numbers, same_area};
 
 use area_directory::word_verdict;
 use area_rules::{AreaLayout, AreaOpening};
@@ -18,7 +18,7 @@ use refusal_rules::{NO_BYTE_ORDER, Refusal, SHORT_FILE, Verdict};
 // words[k - 1].
 fn read_directory(order: Order, file: &[u8]) -> [u32; 64]
     requires { 256 ≤ length file.now }
-    ensures { result ≡ directoryOf order file.now }
+    ensures { result ≡ directory_of order file.now }
 {
     let mut words = [0u32; 64];
     let mut i: usize = 0;
@@ -31,7 +31,7 @@ fn read_directory(order: Order, file: &[u8]) -> [u32; 64]
 
 // The layout that the words of a file of `told` bytes give.
 fn layout_of_words(told: usize, order: Order, words: &[u32; 64]) -> AreaLayout
-    ensures { result ≡ areaLayoutOf order told (word_in words.now) }
+    ensures { result ≡ area_layout_of order told (word_in words.now) }
 {
     let map2 = second_map(words[13], words[19]);
     let padding = padding_length(words[35] == 0, words[48], words[49], words[50]);
@@ -60,7 +60,7 @@ fn layout_of_words(told: usize, order: Order, words: &[u32; 64]) -> AreaLayout
 
 // Opens by the words of a directory, where W2 reads 4 in this order.
 fn open_words(told: usize, order: Order, words: &[u32; 64]) -> AreaOpening
-    ensures { areaSays result ≡ openAreaWords order told (word_in words.now) }
+    ensures { area_says result ≡ open_area_words order told (word_in words.now) }
 {
     match word_verdict(told, words) {
         Verdict::Fault(refusal) => AreaOpening::Refused(refusal),
@@ -71,7 +71,7 @@ fn open_words(told: usize, order: Order, words: &[u32; 64]) -> AreaOpening
 // Opens by the bytes of a directory, where W2 reads 4 in this order.
 fn open_ordered(told: usize, order: Order, bytes: &[u8]) -> AreaOpening
     requires { 256 ≤ length bytes.now }
-    ensures { areaSays result ≡ openAreaWords order told (word_in (directoryOf order bytes.now)) }
+    ensures { area_says result ≡ open_area_words order told (word_in (directory_of order bytes.now)) }
 {
     let words = read_directory(order, bytes);
     open_words(told, order, &words)
@@ -82,7 +82,7 @@ fn open_ordered(told: usize, order: Order, bytes: &[u8]) -> AreaOpening
 // order, 3 at a count outside its bounds, 4 at a word unequal to its rule, 5 at the start of a part that would be outside the file or over another
 // part.
 pub fn open_told(told: usize, directory: &[u8]) -> AreaOpening
-    ensures { areaSays result ≡ openAreaTold told directory.now }
+    ensures { area_says result ≡ open_area_told told directory.now }
 {
     if told < 256 {
         return AreaOpening::Refused(Refusal {
@@ -110,21 +110,21 @@ pub fn open_told(told: usize, directory: &[u8]) -> AreaOpening
 
 // Opens an AREA file, in the byte order in which word 2 reads 4. Refused as `open_told` at the file's own length.
 pub fn open(file: &[u8]) -> AreaOpening
-    ensures { areaSays result ≡ openArea file.now }
+    ensures { area_says result ≡ open_area file.now }
 {
     open_told(file.len(), file)
 }
 
 // A number for a test, by which two tests are compared.
 fn flag_number(t: bool) -> u32
-    ensures { result ≡ flagNumber t }
+    ensures { result ≡ flag_number t }
 {
     if t { 1 } else { 0 }
 }
 
 // Whether two layouts have the same band map, starts of blocks and comment cards. What has been compared up to a field is named after it, here and below.
 fn same_blocks(a: AreaLayout, b: AreaLayout) -> bool
-    ensures { result ≡ same_numbers (blockNumbers a) (blockNumbers b) }
+    ensures { result ≡ same_numbers (block_numbers a) (block_numbers b) }
 {
     let cards = equal_and(a.cards, b.cards, true);
     let cal = equal_and(a.cal, b.cal, cards);
@@ -137,7 +137,7 @@ fn same_blocks(a: AreaLayout, b: AreaLayout) -> bool
 
 // Whether two layouts have the same line prefixes, and the same band map, starts of blocks and comment cards.
 fn same_from_prefix(a: AreaLayout, b: AreaLayout) -> bool
-    ensures { result ≡ same_numbers (prefixNumbers a ++ blockNumbers a) (prefixNumbers b ++ blockNumbers b) }
+    ensures { result ≡ same_numbers (prefix_numbers a ++ block_numbers a) (prefix_numbers b ++ block_numbers b) }
 {
     let blocks = same_blocks(a, b);
     let padding = equal_and(a.padding, b.padding, blocks);
@@ -154,7 +154,7 @@ fn same_from_prefix(a: AreaLayout, b: AreaLayout) -> bool
 
 // Whether two AREA layouts are the same in every field.
 pub fn same_area(a: AreaLayout, b: AreaLayout) -> bool
-    ensures { result ≡ sameArea a b }
+    ensures { result ≡ same_area a b }
 {
     let a_order = a.order;
     let b_order = b.order;

@@ -1,13 +1,13 @@
 // The blocks of an AREA file: where each lies, and its bytes handed back.
 ghost use Rattle.std.specs.Prelude.{◌≡◌, ◌<◌};
-ghost use Rattle.area_rules.specs.Blocks.{nearerStart, nextStart, blockStarts};
+ghost use Rattle.area_rules.specs.Blocks.{nearer_start, next_start, block_starts};
 ghost use Rattle.area_rules.specs.Samples.{AreaFits};
-ghost use Rattle.span_rules.specs.Spans.{spanSays, lentBytes, thatPart};
-ghost use Rattle.area_part_rules.specs.Blocks.{optionalBlockOf, block_of, blockSpan};
+ghost use Rattle.span_rules.specs.Spans.{span_says, lent_bytes, that_part};
+ghost use Rattle.area_part_rules.specs.Blocks.{optional_block_of, block_of, block_span};
 
 use area_places::data_length;
 use area_rules::{AreaLayout, AreaOpening, Block};
-use fresh_layout::area_of;
+use fresh_layout::area_of_lem;
 use layout_rules::Layout;
 use refusal_rules::{ABSENT, Refusal, SizeAnswer};
 use span_rules::{Span, SpanAnswer};
@@ -15,7 +15,7 @@ use span_steps::hand_back;
 
 // The start s where it is greater than x and before n, else n: one step of the search for the next greater start.
 fn nearer_start(x: u32, s: u32, n: usize) -> usize
-    ensures { result ≡ nearerStart x s n }
+    ensures { result ≡ nearer_start x s n }
 {
     let start = s as usize;
     if x < s {
@@ -28,7 +28,7 @@ fn nearer_start(x: u32, s: u32, n: usize) -> usize
 
 // The byte after a block that starts at x: the next greater start, or else the end of the file.
 fn end_of(l: AreaLayout, x: u32) -> usize
-    ensures { result ≡ nextStart x l.length (blockStarts l) }
+    ensures { result ≡ next_start x l.length (block_starts l) }
 {
     let data = nearer_start(x, l.data_start, l.length);
     let aux = nearer_start(x, l.aux, data);
@@ -39,7 +39,7 @@ fn end_of(l: AreaLayout, x: u32) -> usize
 // The span of NAV, CAL or AUX, which starts at x and is absent where x is 0.
 fn optional_span(l: AreaLayout, x: u32) -> SpanAnswer
     requires { (x ≡ 0 → ⊥) → x < l.length }
-    ensures { spanSays result ≡ optionalBlockOf l x }
+    ensures { span_says result ≡ optional_block_of l x }
 {
     if x == 0 {
         return SpanAnswer::Refused(Refusal {
@@ -57,7 +57,7 @@ fn optional_span(l: AreaLayout, x: u32) -> SpanAnswer
 // The span of DATA, which has the bytes of its lines.
 fn data_span(l: AreaLayout) -> SpanAnswer
     requires { AreaFits l }
-    ensures { spanSays result ≡ block_of l Block.Data }
+    ensures { span_says result ≡ block_of l Block.Data }
 {
     match data_length(l) {
         SizeAnswer::Refused(refusal) => SpanAnswer::Refused(refusal),
@@ -71,7 +71,7 @@ fn data_span(l: AreaLayout) -> SpanAnswer
 // The span of AUDIT, which is straight after DATA, and absent where there are no comment cards.
 fn audit_span(l: AreaLayout) -> SpanAnswer
     requires { AreaFits l }
-    ensures { spanSays result ≡ block_of l Block.Audit }
+    ensures { span_says result ≡ block_of l Block.Audit }
 {
     if l.cards == 0 {
         return SpanAnswer::Refused(Refusal {
@@ -91,7 +91,7 @@ fn audit_span(l: AreaLayout) -> SpanAnswer
 // The span of a block of an accepted file.
 fn span_of(l: AreaLayout, block: Block) -> SpanAnswer
     requires { AreaFits l }
-    ensures { spanSays result ≡ block_of l block }
+    ensures { span_says result ≡ block_of l block }
 {
     match block {
         Block::Dir => SpanAnswer::At(Span {
@@ -109,9 +109,9 @@ fn span_of(l: AreaLayout, block: Block) -> SpanAnswer
 // Where a block of an AREA file lies: start and length in bytes. Refused with 9 where the layout is stale, then with 7 where it is of another kind, then with 6
 // where the block is absent.
 pub fn block_span(file: &[u8], layout: Layout, block: Block) -> SpanAnswer
-    ensures { spanSays result ≡ blockSpan file.now layout block }
+    ensures { span_says result ≡ block_span file.now layout block }
 {
-    match area_of(file, layout) {
+    match area_of_lem(file, layout) {
         AreaOpening::Refused(refusal) => SpanAnswer::Refused(refusal),
         AreaOpening::Opened(l) => span_of(l, block),
     }
@@ -119,7 +119,7 @@ pub fn block_span(file: &[u8], layout: Layout, block: Block) -> SpanAnswer
 
 // A block of an AREA file, handed back as that part of the file; empty where `block_span` refuses.
 pub fn block_bytes(file: &[u8], layout: Layout, block: Block) -> &[u8]
-    ensures { lentBytes result ≡ thatPart file.entry (blockSpan file.now layout block) }
+    ensures { lent_bytes result ≡ that_part file.entry (block_span file.now layout block) }
 {
     hand_back(file, block_span(file, layout, block))
 }

@@ -1,9 +1,9 @@
 // The rules of the words of an AREA directory, as functions over its 64 words. W k, counted from 1, is words[k - 1].
 ghost use Rattle.std.specs.Prelude.{◌≡◌, ◌≤◌, leb, ltb, eqb};
 ghost use Rattle.lists.specs.Choices.{both, either};
-ghost use Rattle.refusal_rules.specs.Rules.{judge, first, firstFault};
-ghost use Rattle.area_rules.specs.Rules.{word_in, areaCount, isWidth, areaCountRules, lineLengthOf, areaShapeRules, auditEndOf, areaPlaceRules, areaDescribedRules, areaWordRules};
-ghost use Rattle.area_rules.specs.Lines.{auditEnd};
+ghost use Rattle.refusal_rules.specs.Rules.{judge, first, first_fault};
+ghost use Rattle.area_rules.specs.Rules.{word_in, area_count, is_width, area_count_rules, line_length_of, area_shape_rules, audit_end_of, area_place_rules, area_described_rules, area_word_rules};
+ghost use Rattle.area_rules.specs.Lines.{audit_end};
 
 use area_steps::line_bytes;
 use endian::at_least;
@@ -14,7 +14,7 @@ use refusal_rules::{COUNT_OUT_OF_BOUNDS, MISPLACED, RULE_BROKEN, Verdict};
 // Refusal 3 at word k, after what came before, unless the word is from `low` to `high`.
 fn count(verdict: Verdict, words: &[u32; 64], k: usize, low: u32, high: u32) -> Verdict
     requires { (1 ≤ k) × (k ≤ 64) }
-    ensures { result ≡ first verdict (judge (areaCount (word_in words.now) k low high)) }
+    ensures { result ≡ first verdict (judge (area_count (word_in words.now) k low high)) }
 {
     check(
         verdict,
@@ -26,14 +26,14 @@ fn count(verdict: Verdict, words: &[u32; 64], k: usize, low: u32, high: u32) -> 
 
 // Whether a sample may have n bytes.
 fn is_width(n: u32) -> bool
-    ensures { result ≡ isWidth n }
+    ensures { result ≡ is_width n }
 {
     or(n == 1, or(n == 2, n == 4))
 }
 
 // What the rules of the counts say. The verdict up to the rule of a word is named after it, here and below.
 fn count_verdict(words: &[u32; 64]) -> Verdict
-    ensures { result ≡ firstFault (areaCountRules (word_in words.now)) }
+    ensures { result ≡ first_fault (area_count_rules (word_in words.now)) }
 {
     let to_9 = count(Verdict::Pass, words, 9, 1, 65535);
     let to_10 = count(to_9, words, 10, 1, 65535);
@@ -48,8 +48,8 @@ fn count_verdict(words: &[u32; 64]) -> Verdict
 
 // The line length that the words give, where the counts passed.
 fn line_length_of(words: &[u32; 64]) -> usize
-    requires { firstFault (areaCountRules (word_in words.now)) ≡ Verdict.Pass }
-    ensures { result ≡ lineLengthOf (word_in words.now) }
+    requires { first_fault (area_count_rules (word_in words.now)) ≡ Verdict.Pass }
+    ensures { result ≡ line_length_of (word_in words.now) }
 {
     line_bytes(words[14], words[13], words[9], words[10])
 }
@@ -57,23 +57,23 @@ fn line_length_of(words: &[u32; 64]) -> usize
 // The byte after AUDIT. The bounds are those of the counts, and of a line: 196,612 bytes of prefix and 16,776,960 of samples.
 fn end_of_audit(start: u32, lines: u32, line: usize, cards: u32) -> usize
     requires { (lines ≤ 65535) × ((line ≤ 16973572) × (cards ≤ 65535)) }
-    ensures { result ≡ auditEnd start lines line cards }
+    ensures { result ≡ audit_end start lines line cards }
 {
     start as usize + lines as usize * line + 80 * cards as usize
 }
 
 // The byte after AUDIT that the words give, where the rules before passed.
 fn audit_end_of(words: &[u32; 64]) -> usize
-    requires { (firstFault (areaCountRules (word_in words.now)) ≡ Verdict.Pass) × (firstFault (areaShapeRules (word_in words.now)) ≡ Verdict.Pass) }
-    ensures { result ≡ auditEndOf (word_in words.now) }
+    requires { (first_fault (area_count_rules (word_in words.now)) ≡ Verdict.Pass) × (first_fault (area_shape_rules (word_in words.now)) ≡ Verdict.Pass) }
+    ensures { result ≡ audit_end_of (word_in words.now) }
 {
     end_of_audit(words[33], words[8], line_length_of(words), words[63])
 }
 
 // What the rules of the words that follow from others say, where the counts passed.
 fn shape_verdict(words: &[u32; 64]) -> Verdict
-    requires { firstFault (areaCountRules (word_in words.now)) ≡ Verdict.Pass }
-    ensures { result ≡ firstFault (areaShapeRules (word_in words.now)) }
+    requires { first_fault (area_count_rules (word_in words.now)) ≡ Verdict.Pass }
+    ensures { result ≡ first_fault (area_shape_rules (word_in words.now)) }
 {
     let prefix_fits = is_prefix_length(words[14], words[35] == 0, words[48], words[49], words[50]);
     let to_15 = check(Verdict::Pass, prefix_fits, RULE_BROKEN, 15);
@@ -93,8 +93,8 @@ fn block_start_fits(told: usize, start: u32, end: usize, x: u32, after: bool, un
 
 // What the rules of the places say, in a file of `told` bytes, where the rules before passed.
 fn place_verdict(told: usize, words: &[u32; 64]) -> Verdict
-    requires { (firstFault (areaCountRules (word_in words.now)) ≡ Verdict.Pass) × (firstFault (areaShapeRules (word_in words.now)) ≡ Verdict.Pass) }
-    ensures { result ≡ firstFault (areaPlaceRules told (word_in words.now)) }
+    requires { (first_fault (area_count_rules (word_in words.now)) ≡ Verdict.Pass) × (first_fault (area_shape_rules (word_in words.now)) ≡ Verdict.Pass) }
+    ensures { result ≡ first_fault (area_place_rules told (word_in words.now)) }
 {
     let end = audit_end_of(words);
     let start = words[33];
@@ -115,7 +115,7 @@ fn place_verdict(told: usize, words: &[u32; 64]) -> Verdict
 // What the rules of counts and of the words that follow from them say of a directory's 64 words: 3 and 4 with document 01's places. These rules
 // look neither at a file nor at a start, but for whether W60 is 0.
 pub fn described_verdict(words: &[u32; 64]) -> Verdict
-    ensures { result ≡ firstFault (areaDescribedRules (word_in words.now)) }
+    ensures { result ≡ first_fault (area_described_rules (word_in words.now)) }
 {
     match count_verdict(words) {
         Verdict::Fault(refusal) => Verdict::Fault(refusal),
@@ -125,7 +125,7 @@ pub fn described_verdict(words: &[u32; 64]) -> Verdict
 
 // What all rules of the words but W2 say of a directory's 64 words and a file of `told` bytes: 3, 4 and 5 with document 01's places.
 pub fn word_verdict(told: usize, words: &[u32; 64]) -> Verdict
-    ensures { result ≡ firstFault (areaWordRules told (word_in words.now)) }
+    ensures { result ≡ first_fault (area_word_rules told (word_in words.now)) }
 {
     match described_verdict(words) {
         Verdict::Fault(refusal) => Verdict::Fault(refusal),

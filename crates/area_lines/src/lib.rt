@@ -1,15 +1,15 @@
 // The lines of an AREA file: the slot of a band, and one slot of one line copied into a lent output.
 ghost use Rattle.std.specs.Prelude.{◌≡◌};
-ghost use Rattle.refusal_rules.specs.Answers.{numberSays, sizeSays};
+ghost use Rattle.refusal_rules.specs.Answers.{number_says, size_says};
 ghost use Rattle.area_rules.specs.Samples.{AreaOf};
 ghost use Rattle.copy_rules.specs.Runs.{copied};
-ghost use Rattle.area_part_rules.specs.Lines.{bandSlotIn, lineIn, copyLine};
+ghost use Rattle.area_part_rules.specs.Lines.{band_slot_in, line_in, copy_line};
 
 use area_places::sample_place;
 use area_rules::{AreaLayout, AreaOpening, SlotOrBand};
 use bands::slot_of;
 use copy_rules::Strided;
-use fresh_layout::area_of;
+use fresh_layout::area_of_lem;
 use layout_rules::Layout;
 use number_copy_steps::copy_numbers;
 use refusal_rules::{NumberAnswer, PlaceAnswer, SizeAnswer};
@@ -17,9 +17,9 @@ use refusal_rules::{NumberAnswer, PlaceAnswer, SizeAnswer};
 // The slot of a band, counted from 1, of an AREA file. Refused with 9 where the layout is stale, then with 7 where it is of another kind, then with 4 at 19 where
 // the band map has not as many set bits as there are bands, then with 7 where it has no such band.
 pub fn band_slot(file: &[u8], layout: Layout, band: u32) -> NumberAnswer
-    ensures { numberSays result ≡ bandSlotIn file.now layout band }
+    ensures { number_says result ≡ band_slot_in file.now layout band }
 {
-    match area_of(file, layout) {
+    match area_of_lem(file, layout) {
         AreaOpening::Refused(refusal) => NumberAnswer::Refused(refusal),
         AreaOpening::Opened(l) => slot_of(l, SlotOrBand::Band(band)),
     }
@@ -34,7 +34,7 @@ fn copy_line_in(
     out: &mut [u32],
 ) -> SizeAnswer
     requires { AreaOf file.now l }
-    ensures { (sizeSays result, out.new) ≡ copied (lineIn file.now l line which) out.old }
+    ensures { (size_says result, out.new) ≡ copied (line_in file.now l line which) out.old }
 {
     let order = l.order;
     match sample_place(l, line, 0, which) {
@@ -60,9 +60,9 @@ pub fn copy_line(
     which: SlotOrBand,
     out: &mut [u32],
 ) -> SizeAnswer
-    ensures { (sizeSays result, out.new) ≡ copyLine file.now layout line which out.old }
+    ensures { (size_says result, out.new) ≡ copy_line file.now layout line which out.old }
 {
-    match area_of(file, layout) {
+    match area_of_lem(file, layout) {
         AreaOpening::Refused(refusal) => SizeAnswer::Refused(refusal),
         AreaOpening::Opened(l) => copy_line_in(file, l, line, which, out),
     }

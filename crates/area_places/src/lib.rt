@@ -1,11 +1,11 @@
 // Where the lines and samples of an AREA file lie, by a layout alone. A layout may be one that a caller has made up: where a field of it is above the bounds
 // that opening sets, there is no such value, and nothing is computed from it.
 ghost use Rattle.std.specs.Prelude.{◌≡◌, ◌≤◌};
-ghost use Rattle.refusal_rules.specs.Answers.{sizeSays, placeSays};
-ghost use Rattle.refusal_rules.specs.Rules.{firstFault};
-ghost use Rattle.area_rules.specs.Bounds.{areaBounded, AreaBounds};
-ghost use Rattle.area_rules.specs.Samples.{lineLengthIn, lineStart, sampleAddress};
-ghost use Rattle.area_rules.specs.Places.{lengthOfLine, lengthOfData, lineStartOf, sampleRules, samplePlace};
+ghost use Rattle.refusal_rules.specs.Answers.{size_says, place_says};
+ghost use Rattle.refusal_rules.specs.Rules.{first_fault};
+ghost use Rattle.area_rules.specs.Bounds.{area_bounded, AreaBounds};
+ghost use Rattle.area_rules.specs.Samples.{line_length_in, line_start, sample_address};
+ghost use Rattle.area_rules.specs.Places.{length_of_line, length_of_data, line_start_of, sample_rules, sample_place};
 
 use area_rules::{AreaLayout, SlotOrBand};
 use area_steps::line_bytes;
@@ -15,7 +15,7 @@ use refusal_rules::{NO_SUCH, NumberAnswer, Place, PlaceAnswer, SizeAnswer, Verdi
 
 // Whether the fields that AREA addresses are computed from are within the bounds that opening sets.
 fn area_bounded(layout: AreaLayout) -> bool
-    ensures { result ≡ areaBounded layout }
+    ensures { result ≡ area_bounded layout }
 {
     let samples = and(layout.width <= 4, layout.bands <= 64);
     and(
@@ -27,14 +27,14 @@ fn area_bounded(layout: AreaLayout) -> bool
 // The line length, in bytes.
 fn line_length_in(layout: AreaLayout) -> usize
     requires { AreaBounds layout }
-    ensures { result ≡ lineLengthIn layout }
+    ensures { result ≡ line_length_in layout }
 {
     line_bytes(layout.prefix, layout.bands, layout.elements, layout.width)
 }
 
 // How many bytes a line of an AREA file has, its prefix among them. Refused with 7 where the layout is above the bounds that opening sets.
 pub fn line_length(layout: AreaLayout) -> SizeAnswer
-    ensures { sizeSays result ≡ lengthOfLine layout }
+    ensures { size_says result ≡ length_of_line layout }
 {
     match check(Verdict::Pass, area_bounded(layout), NO_SUCH, 0) {
         Verdict::Fault(refusal) => SizeAnswer::Refused(refusal),
@@ -44,7 +44,7 @@ pub fn line_length(layout: AreaLayout) -> SizeAnswer
 
 // How many bytes DATA of an AREA file has: those of all its lines. Refused as `line_length`.
 pub fn data_length(layout: AreaLayout) -> SizeAnswer
-    ensures { sizeSays result ≡ lengthOfData layout }
+    ensures { size_says result ≡ length_of_data layout }
 {
     match line_length(layout) {
         SizeAnswer::Refused(refusal) => SizeAnswer::Refused(refusal),
@@ -58,7 +58,7 @@ pub fn data_length(layout: AreaLayout) -> SizeAnswer
 // The byte at which a line begins, with its prefix.
 fn line_at(layout: AreaLayout, line: u32) -> usize
     requires { AreaBounds layout × (line ≤ layout.lines) }
-    ensures { result ≡ lineStart layout line }
+    ensures { result ≡ line_start layout line }
 {
     layout.data_start as usize + line as usize * line_length_in(layout)
 }
@@ -66,7 +66,7 @@ fn line_at(layout: AreaLayout, line: u32) -> usize
 // The byte at which a line of an AREA file begins, with its prefix, the line counted from 0. Refused with 7 where there is no such line, or the layout is above the
 // bounds that opening sets.
 pub fn line_start(layout: AreaLayout, line: u32) -> SizeAnswer
-    ensures { sizeSays result ≡ lineStartOf layout line }
+    ensures { size_says result ≡ line_start_of layout line }
 {
     let bounded = check(Verdict::Pass, area_bounded(layout), NO_SUCH, 0);
     match check(bounded, line < layout.lines, NO_SUCH, 0) {
@@ -78,7 +78,7 @@ pub fn line_start(layout: AreaLayout, line: u32) -> SizeAnswer
 // The byte at which the sample of a line, an element and a slot begins.
 fn sample_address(layout: AreaLayout, line: u32, element: u32, slot: u32) -> usize
     requires { AreaBounds layout × ((line ≤ layout.lines) × ((element ≤ layout.elements) × (slot ≤ layout.bands))) }
-    ensures { result ≡ sampleAddress layout line element slot }
+    ensures { result ≡ sample_address layout line element slot }
 {
     let before = element as usize * layout.bands as usize + slot as usize;
     line_at(layout, line) + layout.prefix as usize + before * layout.width as usize
@@ -86,7 +86,7 @@ fn sample_address(layout: AreaLayout, line: u32, element: u32, slot: u32) -> usi
 
 // What the rules of a sample of a line and an element say: 7 where there is no such line or element.
 fn sample_verdict(layout: AreaLayout, line: u32, element: u32) -> Verdict
-    ensures { result ≡ firstFault (sampleRules layout line element) }
+    ensures { result ≡ first_fault (sample_rules layout line element) }
 {
     let bounded = check(Verdict::Pass, area_bounded(layout), NO_SUCH, 0);
     let lines = check(bounded, line < layout.lines, NO_SUCH, 0);
@@ -96,7 +96,7 @@ fn sample_verdict(layout: AreaLayout, line: u32, element: u32) -> Verdict
 // The place of a sample of an AREA file, named by line and element, both counted from 0, and slot or band. Refused with 4 at 19 where a band is named and the band
 // map is unusable, then with 7 where there is no such line, element, slot or band, or the layout is above the bounds that opening sets.
 pub fn sample_place(layout: AreaLayout, line: u32, element: u32, which: SlotOrBand) -> PlaceAnswer
-    ensures { placeSays result ≡ samplePlace layout line element which }
+    ensures { place_says result ≡ sample_place layout line element which }
 {
     match slot_of(layout, which) {
         NumberAnswer::Refused(refusal) => PlaceAnswer::Refused(refusal),

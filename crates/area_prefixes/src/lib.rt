@@ -1,14 +1,14 @@
 // The regions of a line prefix of an AREA file, the padding among them: where each lies, and its bytes handed back.
 ghost use Rattle.std.specs.Prelude.{◌≡◌, ◌≤◌};
-ghost use Rattle.lists.specs.Segments.{total, segmentOffset};
-ghost use Rattle.area_rules.specs.Blocks.{regionLengths, regionIndex, regionLength, regionOffset};
+ghost use Rattle.lists.specs.Segments.{total, segment_offset};
+ghost use Rattle.area_rules.specs.Blocks.{region_lengths, region_index, region_length, region_offset};
 ghost use Rattle.area_rules.specs.Samples.{AreaFits};
-ghost use Rattle.span_rules.specs.Spans.{span, spanSays, lentBytes, thatPart};
-ghost use Rattle.area_part_rules.specs.Regions.{regionOf, regionSpan};
+ghost use Rattle.span_rules.specs.Spans.{span, span_says, lent_bytes, that_part};
+ghost use Rattle.area_part_rules.specs.Regions.{region_of, region_span};
 
 use area_places::line_start;
 use area_rules::{AreaLayout, AreaOpening, Region};
-use fresh_layout::area_of;
+use fresh_layout::area_of_lem;
 use layout_rules::Layout;
 use prefix_lengths::validity_length;
 use refusal::check;
@@ -18,7 +18,7 @@ use span_steps::hand_back;
 
 // The lengths of the regions of a line prefix, in their order.
 fn region_lengths(l: AreaLayout) -> [usize; 5]
-    ensures { result ≡ regionLengths l }
+    ensures { result ≡ region_lengths l }
 {
     [
         validity_length(l.no_validity_code),
@@ -31,7 +31,7 @@ fn region_lengths(l: AreaLayout) -> [usize; 5]
 
 // The place of a region among the regions of a line prefix, counted from 0.
 fn region_index(region: Region) -> usize
-    ensures { (result ≡ regionIndex region) × (result ≤ 4) }
+    ensures { (result ≡ region_index region) × (result ≤ 4) }
 {
     match region {
         Region::Validity => 0,
@@ -45,7 +45,7 @@ fn region_index(region: Region) -> usize
 // How many bytes the first k regions of a line prefix have together, by the lengths of all its regions.
 fn offset_of(lengths: &[usize; 5], k: usize) -> usize
     requires { (k ≤ 4) × (total lengths.now ≤ 4294967295) }
-    ensures { result ≡ segmentOffset lengths.now k }
+    ensures { result ≡ segment_offset lengths.now k }
 {
     let mut offset: usize = 0;
     let mut i: usize = 0;
@@ -59,7 +59,7 @@ fn offset_of(lengths: &[usize; 5], k: usize) -> usize
 // Where a region lies in a line prefix of an accepted file: how many bytes there are before it, and how many it has.
 fn region_in_prefix(l: AreaLayout, region: Region) -> Span
     requires { AreaFits l }
-    ensures { result ≡ span (regionOffset l region) (regionLength l region) }
+    ensures { result ≡ span (region_offset l region) (region_length l region) }
 {
     let lengths = region_lengths(l);
     let k = region_index(region);
@@ -72,7 +72,7 @@ fn region_in_prefix(l: AreaLayout, region: Region) -> Span
 // The span of a region of a line's prefix in an accepted file.
 fn region_of(l: AreaLayout, line: u32, region: Region) -> SpanAnswer
     requires { AreaFits l }
-    ensures { spanSays result ≡ regionOf l line region }
+    ensures { span_says result ≡ region_of l line region }
 {
     let part = region_in_prefix(l, region);
     let lines = check(Verdict::Pass, line < l.lines, NO_SUCH, 0);
@@ -91,9 +91,9 @@ fn region_of(l: AreaLayout, line: u32, region: Region) -> SpanAnswer
 // Where a region of the prefix of a line, counted from 0, of an AREA file lies, or its padding: start and length in bytes. Refused with 9 where the layout is stale, then with
 // 7 where it is of another kind, then with 7 where there is no such line, then with 6 where the region has length 0.
 pub fn region_span(file: &[u8], layout: Layout, line: u32, region: Region) -> SpanAnswer
-    ensures { spanSays result ≡ regionSpan file.now layout line region }
+    ensures { span_says result ≡ region_span file.now layout line region }
 {
-    match area_of(file, layout) {
+    match area_of_lem(file, layout) {
         AreaOpening::Refused(refusal) => SpanAnswer::Refused(refusal),
         AreaOpening::Opened(l) => region_of(l, line, region),
     }
@@ -101,7 +101,7 @@ pub fn region_span(file: &[u8], layout: Layout, line: u32, region: Region) -> Sp
 
 // A region of a line's prefix, handed back as that part of the file; empty where `region_span` refuses.
 pub fn region_bytes(file: &[u8], layout: Layout, line: u32, region: Region) -> &[u8]
-    ensures { lentBytes result ≡ thatPart file.entry (regionSpan file.now layout line region) }
+    ensures { lent_bytes result ≡ that_part file.entry (region_span file.now layout line region) }
 {
     hand_back(file, region_span(file, layout, line, region))
 }

@@ -6,12 +6,12 @@ use mathlib.Core.List.{List}
 use Prim.Native.Nat.{ℕ}
 use native.Mathlib.Omega.{arith}
 use lib.ListN.{get_or}
-use Rattle.endian_rules.proofs.Places.{order_same}
+use Rattle.endian_rules.proofs.Places.{order-same}
 use Rattle.refusal_rules.specs.Answers.{Answer, gives, refuses}
 use Rattle.refusal_rules.specs.Tests.{Exactly}
 use Rattle.refusal_rules.proofs.Answers.{settled}
-use Rattle.refusal_rules.proofs.Exactness.{by-numbers}
-use Rattle.area_rules.specs.Opening.{areaSays, flagNumber, areaNumbers, sameArea}
+use Rattle.refusal_rules.proofs.Exactness.{by_numbers}
+use Rattle.area_rules.specs.Opening.{area_says, flag_number, area_numbers, same_area}
 use Rattle.area_rules.specs.declared.AreaLayout.{AreaLayout}
 use Rattle.area_rules.specs.declared.AreaOpening.{AreaOpening}
 use Rattle.area_rules.specs.declared.AreaOpening.TheVariants.{Opened, Refused}
@@ -21,26 +21,26 @@ back : Answer AreaLayout → AreaOpening
 back (gives l) = Opened l
 back (refuses n p) = Refused (record { number = n; place = p })
 
-pub area-settled : (x y : AreaOpening) → areaSays x ≡ areaSays y → x ≡ y
+pub area_settled : (x y : AreaOpening) → area_says x ≡ area_says y → x ≡ y
 unfolding back
-area-settled = settled areaSays back (λ x. step x)
+area_settled = settled area_says back (λ x. step x)
   where
-    step : (x : AreaOpening) → back (areaSays x) ≡ x
+    step : (x : AreaOpening) → back (area_says x) ≡ x
     step (Opened l) = refl
     step (Refused r) = refl
 
 -- two tests with one number are the same
-flag_same : (a b : Bool) → flagNumber a ≡ flagNumber b → a ≡ b
+flag_same : (a b : Bool) → flag_number a ≡ flag_number b → a ≡ b
 flag_same true true e = refl
 flag_same true false e = let z : ⊥ = omega arith in absurd z
 flag_same false true e = let z : ⊥ = omega arith in absurd z
 flag_same false false e = refl
 
 -- layouts with the same numbers are the same
-numbers-settle : (a b : AreaLayout) → areaNumbers a ≡ areaNumbers b → a ≡ b
-numbers-settle a b e = λ i.
+numbers_settle : (a b : AreaLayout) → area_numbers a ≡ area_numbers b → a ≡ b
+numbers_settle a b e = λ i.
     record {
-      order = order_same a.order b.order (ap (λ (l : List ℕ). get_or l 0 0) e) i;
+      order = order-same a.order b.order (ap (λ (l : List ℕ). get_or l 0 0) e) i;
       length = get_or (e i) 1 0;
       lines = get_or (e i) 2 0;
       elements = get_or (e i) 3 0;
@@ -62,6 +62,6 @@ numbers-settle a b e = λ i.
     }
 
 -- the comparison says exactly whether two layouts are the same
-pub same-area-exactly : (a b : AreaLayout) → Exactly (sameArea a b) (a ≡ b)
-unfolding sameArea
-same-area-exactly = by-numbers areaNumbers numbers-settle
+pub same_area_exactly : (a b : AreaLayout) → Exactly (same_area a b) (a ≡ b)
+unfolding same_area
+same_area_exactly = by_numbers area_numbers numbers_settle

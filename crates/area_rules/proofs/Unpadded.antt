@@ -18,53 +18,53 @@ use Rattle.endian_rules.specs.declared.Order.{Order}
 use Rattle.endian_rules.specs.declared.Order.TheVariants.{Big, Little}
 use Rattle.lists.specs.Choices.{either}
 use Rattle.lists.specs.Lists.{list_of}
-use Rattle.refusal_rules.specs.Rules.{Rule, rule, judge, first, firstFault, Hold}
+use Rattle.refusal_rules.specs.Rules.{Rule, rule, judge, first, first_fault, Hold}
 use Rattle.refusal_rules.specs.Tests.{within}
 use Rattle.refusal_rules.specs.Answers.{Answer, gives, refuses, answered}
-use Rattle.refusal_rules.proofs.Answers.{value-exactly}
-use Rattle.refusal_rules.proofs.Exactness.{eq-exactly}
+use Rattle.refusal_rules.proofs.Answers.{value_exactly}
+use Rattle.refusal_rules.proofs.Exactness.{eq_exactly}
 use Rattle.refusal_rules.proofs.Tables.{hold-append}
-use Rattle.area_rules.specs.Bands.{secondMap}
-use Rattle.area_rules.specs.Lines.{validityLength}
-use Rattle.area_rules.specs.Rules.{directoryOf, word_in, readsFour, areaOrder, multipleOfFour, prefixLengthOf, paddingLengthOf, lineLengthOf, areaCountRules, areaShapeRules, areaPlaceRules, areaDescribedRules, areaWordRules, areaRules}
-use Rattle.area_rules.specs.Opening.{areaLayoutOf, openAreaTold, openArea}
-use Rattle.area_rules.specs.Samples.{lineStart, sampleAddress}
-use Rattle.area_rules.specs.Blocks.{blockStart, blockEnd, nextStart, regionLength, regionStart}
-use Rattle.area_rules.specs.Worked.{fileImager, imager}
+use Rattle.area_rules.specs.Bands.{second_map}
+use Rattle.area_rules.specs.Lines.{validity_length}
+use Rattle.area_rules.specs.Rules.{directory_of, word_in, reads_four, area_order, multiple_of_four, prefix_length_of, padding_length_of, line_length_of, area_count_rules, area_shape_rules, area_place_rules, area_described_rules, area_word_rules, area_rules}
+use Rattle.area_rules.specs.Opening.{area_layout_of, open_area_told, open_area}
+use Rattle.area_rules.specs.Samples.{line_start, sample_address}
+use Rattle.area_rules.specs.Blocks.{block_start, block_end, next_start, region_length, region_start}
+use Rattle.area_rules.specs.Worked.{file_imager, imager}
 use Rattle.area_rules.specs.declared.AreaLayout.{AreaLayout}
 use Rattle.area_rules.specs.declared.Block.{Block}
 use Rattle.area_rules.specs.declared.Block.TheVariants.{Dir, Nav, Cal, Aux, Data, Audit}
 use Rattle.area_rules.specs.declared.Region.TheVariants.{Validity, Documentation, Calibration, BandList}
-use Rattle.area_rules.proofs.Prefixes.{rounded-itself, code-four}
+use Rattle.area_rules.proofs.Prefixes.{rounded_itself, code_four}
 
 -- ---- the rules of document 01 alone
 
 -- the bytes of a validity code that the words give
-abbrev codeLength : (ℕ → ℕ) → ℕ
-codeLength W = validityLength (eqb (W 36) 0)
+abbrev code_length : (ℕ → ℕ) → ℕ
+code_length W = validity_length (eqb (W 36) 0)
 
 -- "W49, W50, W51 as multiples of four; W15; line length (place 10); W61 zero if W60 is zero"
-unfoldable pub unpaddedShapeRules : (ℕ → ℕ) → List Rule
-unpaddedShapeRules W =
-    rule (multipleOfFour (W 49)) 4 49
-    ∷ rule (multipleOfFour (W 50)) 4 50
-    ∷ rule (multipleOfFour (W 51)) 4 51
-    ∷ rule (eqb (W 15) (codeLength W + W 49 + W 50 + W 51)) 4 15
-    ∷ rule (multipleOfFour (lineLengthOf W)) 4 10
+unfoldable pub unpadded_shape_rules : (ℕ → ℕ) → List Rule
+unpadded_shape_rules W =
+    rule (multiple_of_four (W 49)) 4 49
+    ∷ rule (multiple_of_four (W 50)) 4 50
+    ∷ rule (multiple_of_four (W 51)) 4 51
+    ∷ rule (eqb (W 15) (code_length W + W 49 + W 50 + W 51)) 4 15
+    ∷ rule (multiple_of_four (line_length_of W)) 4 10
     ∷ rule (either (not (eqb (W 60) 0)) (eqb (W 61) 0)) 4 61
     ∷ []
 
--- all checks of document 01 alone; those of length, W2, counts and places are the ones of `areaRules`
-unfoldable pub unpaddedRules : ℕ → List ℕ → List Rule
-unpaddedRules told d =
+-- all checks of document 01 alone; those of length, W2, counts and places are the ones of `area_rules`
+unfoldable pub unpadded_rules : ℕ → List ℕ → List Rule
+unpadded_rules told d =
     rule (leb 256 told) 1 0
     ∷ rule (leb 256 (length d)) 1 0
-    ∷ rule (either (readsFour Big d) (readsFour Little d)) 2 2
-    ∷ (let W : ℕ → ℕ = word_in (directoryOf (areaOrder d) d) in (areaCountRules W ++ unpaddedShapeRules W) ++ areaPlaceRules told W)
+    ∷ rule (either (reads_four Big d) (reads_four Little d)) 2 2
+    ∷ (let W : ℕ → ℕ = word_in (directory_of (area_order d) d) in (area_count_rules W ++ unpadded_shape_rules W) ++ area_place_rules told W)
 
 -- the layout of document 01 alone, as one with a padding of 0
-unfoldable pub unpaddedLayoutOf : Order → ℕ → (ℕ → ℕ) → AreaLayout
-unpaddedLayoutOf o told W =
+unfoldable pub unpadded_layout_of : Order → ℕ → (ℕ → ℕ) → AreaLayout
+unpadded_layout_of o told W =
     record {
       order = o;
       length = told;
@@ -74,7 +74,7 @@ unpaddedLayoutOf o told W =
       bands = W 14;
       prefix = W 15;
       map = W 19;
-      map2 = secondMap (W 14) (W 20);
+      map2 = second_map (W 14) (W 20);
       data_start = W 34;
       nav = W 35;
       documentation = W 49;
@@ -88,8 +88,8 @@ unpaddedLayoutOf o told W =
     }
 
 -- opening a file by document 01 alone
-unfoldable pub openUnpadded : List ℕ → Answer AreaLayout
-openUnpadded f = answered (firstFault (unpaddedRules (length f) f)) (unpaddedLayoutOf (areaOrder f) (length f) (word_in (directoryOf (areaOrder f) f)))
+unfoldable pub open_unpadded : List ℕ → Answer AreaLayout
+open_unpadded f = answered (first_fault (unpadded_rules (length f) f)) (unpadded_layout_of (area_order f) (length f) (word_in (directory_of (area_order f) f)))
 
 -- ---- what document 01 alone accepts
 
@@ -97,161 +97,161 @@ openUnpadded f = answered (firstFault (unpaddedRules (length f) f)) (unpaddedLay
 pub record Fourfold (w49 w50 w51 : ℕ) : Type 0 where
   pub documentation : w49 % 4 ≡ 0
   pub calibration : w50 % 4 ≡ 0
-  pub band-list : w51 % 4 ≡ 0
+  pub band_list : w51 % 4 ≡ 0
 
 module _ (W : ℕ → ℕ) where
   -- where W49, W50 and W51 are multiples of four, the prefix length is the sum itself
-  fourfold-prefix : Fourfold (W 49) (W 50) (W 51) → prefixLengthOf W ≡ codeLength W + W 49 + W 50 + W 51
-  fourfold-prefix f =
-      sym (rounded-itself _ (omega (arith, f.documentation, f.calibration, f.band-list, code-four (eqb (W 36) 0)))) ∙ omega arith
+  fourfold_prefix : Fourfold (W 49) (W 50) (W 51) → prefix_length_of W ≡ code_length W + W 49 + W 50 + W 51
+  fourfold_prefix f =
+      sym (rounded_itself _ (omega (arith, f.documentation, f.calibration, f.band_list, code_four (eqb (W 36) 0)))) ∙ omega arith
 
   -- where they are multiples of four, the padding is 0
-  fourfold-padding : Fourfold (W 49) (W 50) (W 51) → paddingLengthOf W ≡ 0
-  fourfold-padding f = omega (arith, fourfold-prefix f)
+  fourfold_padding : Fourfold (W 49) (W 50) (W 51) → padding_length_of W ≡ 0
+  fourfold_padding f = omega (arith, fourfold_prefix f)
 
-  -- where they are multiples of four, the layout of document 01 alone is the one of `areaLayoutOf`
-  fourfold-layout : (o : Order) (told : ℕ) → Fourfold (W 49) (W 50) (W 51) → unpaddedLayoutOf o told W ≡ areaLayoutOf o told W
-  unfolding unpaddedLayoutOf areaLayoutOf
-  fourfold-layout o told f = rw (fourfold-padding f)
+  -- where they are multiples of four, the layout of document 01 alone is the one of `area_layout_of`
+  fourfold_layout : (o : Order) (told : ℕ) → Fourfold (W 49) (W 50) (W 51) → unpadded_layout_of o told W ≡ area_layout_of o told W
+  unfolding unpadded_layout_of area_layout_of
+  fourfold_layout o told f = rw (fourfold_padding f)
 
   -- document 01's rules of the words that follow from others hold exactly where W49, W50 and W51 are multiples of four and those of request 4 hold
-  shapes-exactly : Hold (unpaddedShapeRules W) ↔ (Fourfold (W 49) (W 50) (W 51) × Hold (areaShapeRules W))
-  unfolding unpaddedShapeRules areaShapeRules
-  shapes-exactly =
-      let w15 = eq-exactly (W 15) (prefixLengthOf W) in
-      let sum = eq-exactly (W 15) (codeLength W + W 49 + W 50 + W 51) in (
+  shapes_exactly : Hold (unpadded_shape_rules W) ↔ (Fourfold (W 49) (W 50) (W 51) × Hold (area_shape_rules W))
+  unfolding unpadded_shape_rules area_shape_rules
+  shapes_exactly =
+      let w15 = eq_exactly (W 15) (prefix_length_of W) in
+      let sum = eq_exactly (W 15) (code_length W + W 49 + W 50 + W 51) in (
         λ h.
             let f : Fourfold (W 49) (W 50) (W 51) = record {
-              documentation = (eq-exactly (W 49 % 4) 0).sound h.0;
-              calibration = (eq-exactly (W 50 % 4) 0).sound h.1.0;
-              band-list = (eq-exactly (W 51 % 4) 0).sound h.1.1.0;
+              documentation = (eq_exactly (W 49 % 4) 0).sound h.0;
+              calibration = (eq_exactly (W 50 % 4) 0).sound h.1.0;
+              band_list = (eq_exactly (W 51 % 4) 0).sound h.1.1.0;
             } in
-            (f, (w15.complete (sum.sound h.1.1.1.0 ∙ sym (fourfold-prefix f)), h.1.1.1.1)),
+            (f, (w15.complete (sum.sound h.1.1.1.0 ∙ sym (fourfold_prefix f)), h.1.1.1.1)),
         λ p.
             let f = p.0 in (
-              (eq-exactly (W 49 % 4) 0).complete f.documentation,
+              (eq_exactly (W 49 % 4) 0).complete f.documentation,
               (
-                (eq-exactly (W 50 % 4) 0).complete f.calibration,
-                ((eq-exactly (W 51 % 4) 0).complete f.band-list, (sum.complete (w15.sound p.1.0 ∙ fourfold-prefix f), p.1.1)),
+                (eq_exactly (W 50 % 4) 0).complete f.calibration,
+                ((eq_exactly (W 51 % 4) 0).complete f.band_list, (sum.complete (w15.sound p.1.0 ∙ fourfold_prefix f), p.1.1)),
               ),
             ),
       )
 
 -- the words of a file, in its byte order
 abbrev pub words_of : List ℕ → ℕ → ℕ
-words_of f = word_in (directoryOf (areaOrder f) f)
+words_of f = word_in (directory_of (area_order f) f)
 
--- all rules of document 01 alone hold exactly where W49, W50 and W51 are multiples of four and all rules of `areaRules` hold
-rules-exactly : (told : ℕ) (d : List ℕ) → Hold (unpaddedRules told d) ↔ (Fourfold (words_of d 49) (words_of d 50) (words_of d 51) × Hold (areaRules told d))
-unfolding unpaddedRules areaRules areaWordRules areaDescribedRules
-rules-exactly told d =
+-- all rules of document 01 alone hold exactly where W49, W50 and W51 are multiples of four and all rules of `area_rules` hold
+rules_exactly : (told : ℕ) (d : List ℕ) → Hold (unpadded_rules told d) ↔ (Fourfold (words_of d 49) (words_of d 50) (words_of d 51) × Hold (area_rules told d))
+unfolding unpadded_rules area_rules area_word_rules area_described_rules
+rules_exactly told d =
     let W : ℕ → ℕ = words_of d in
-    let all = hold-append (areaCountRules W ++ areaShapeRules W) (areaPlaceRules told W) in
-    let described = hold-append (areaCountRules W) (areaShapeRules W) in
-    let all01 = hold-append (areaCountRules W ++ unpaddedShapeRules W) (areaPlaceRules told W) in
-    let described01 = hold-append (areaCountRules W) (unpaddedShapeRules W) in (
+    let all = hold-append (area_count_rules W ++ area_shape_rules W) (area_place_rules told W) in
+    let described = hold-append (area_count_rules W) (area_shape_rules W) in
+    let all01 = hold-append (area_count_rules W ++ unpadded_shape_rules W) (area_place_rules told W) in
+    let described01 = hold-append (area_count_rules W) (unpadded_shape_rules W) in (
       λ h.
           let (rest, places) = all01.0 h.1.1.1 in
           let (counts, shapes) = described01.0 rest in
-          let (f, padded) = (shapes-exactly W).0 shapes in
+          let (f, padded) = (shapes_exactly W).0 shapes in
           (f, (h.0, (h.1.0, (h.1.1.0, all.1 (described.1 (counts, padded), places))))),
       λ p.
           let (f, h) = p in
           let (rest, places) = all.0 h.1.1.1 in
           let (counts, shapes) = described.0 rest in
-          (h.0, (h.1.0, (h.1.1.0, all01.1 (described01.1 (counts, (shapes-exactly W).1 (f, shapes)), places)))),
+          (h.0, (h.1.0, (h.1.1.0, all01.1 (described01.1 (counts, (shapes_exactly W).1 (f, shapes)), places)))),
     )
 
 -- document 01 alone accepts exactly the accepted files whose W49, W50 and W51 are multiples of four, to the same layout
-pub unpadded-exactly : (f : List ℕ) (l : AreaLayout)
-    → (openUnpadded f ≡ gives l) ↔ ((openArea f ≡ gives l) × Fourfold l.documentation l.calibration l.band_list)
-unfolding openUnpadded openArea openAreaTold areaLayoutOf
-unpadded-exactly f l =
+pub unpadded_exactly : (f : List ℕ) (l : AreaLayout)
+    → (open_unpadded f ≡ gives l) ↔ ((open_area f ≡ gives l) × Fourfold l.documentation l.calibration l.band_list)
+unfolding open_unpadded open_area open_area_told area_layout_of
+unpadded_exactly f l =
     let W : ℕ → ℕ = words_of f in
-    let o : Order = areaOrder f in
-    let x = value-exactly (unpaddedRules (length f) f) (unpaddedLayoutOf o (length f) W) l in
-    let y = value-exactly (areaRules (length f) f) (areaLayoutOf o (length f) W) l in (
+    let o : Order = area_order f in
+    let x = value_exactly (unpadded_rules (length f) f) (unpadded_layout_of o (length f) W) l in
+    let y = value_exactly (area_rules (length f) f) (area_layout_of o (length f) W) l in (
       λ e.
           let (hold, same) = x.0 e in
-          let (four, now) = (rules-exactly (length f) f).0 hold in
-          let same' : l ≡ areaLayoutOf o (length f) W = same ∙ fourfold-layout W o (length f) four in
+          let (four, now) = (rules_exactly (length f) f).0 hold in
+          let same' : l ≡ area_layout_of o (length f) W = same ∙ fourfold_layout W o (length f) four in
           (y.1 (now, same'), subst (λ (m : AreaLayout). Fourfold m.documentation m.calibration m.band_list) (sym same') four),
       λ p.
           let (hold, same) = y.0 p.0 in
           let four : Fourfold (W 49) (W 50) (W 51) = subst (λ (m : AreaLayout). Fourfold m.documentation m.calibration m.band_list) same p.1 in
-          x.1 ((rules-exactly (length f) f).1 (four, hold), same ∙ sym (fourfold-layout W o (length f) four)),
+          x.1 ((rules_exactly (length f) f).1 (four, hold), same ∙ sym (fourfold_layout W o (length f) four)),
     )
 
 -- ---- where document 01 alone has samples, regions and blocks
 
 -- the byte at which a block starts, by document 01
-abbrev pub unpaddedBlockStart : (ℕ → ℕ) → Block → ℕ
-unpaddedBlockStart W Dir = 0
-unpaddedBlockStart W Nav = W 35
-unpaddedBlockStart W Cal = W 63
-unpaddedBlockStart W Aux = W 60
-unpaddedBlockStart W Data = W 34
-unpaddedBlockStart W Audit = W 34 + W 9 * (W 15 + W 14 * W 10 * W 11)
+abbrev pub unpadded_block_start : (ℕ → ℕ) → Block → ℕ
+unpadded_block_start W Dir = 0
+unpadded_block_start W Nav = W 35
+unpadded_block_start W Cal = W 63
+unpadded_block_start W Aux = W 60
+unpadded_block_start W Data = W 34
+unpadded_block_start W Audit = W 34 + W 9 * (W 15 + W 14 * W 10 * W 11)
 
 -- the byte after a block of a file of `told` bytes, by document 01
-abbrev pub unpaddedBlockEnd : ℕ → (ℕ → ℕ) → Block → ℕ
-unpaddedBlockEnd told W Dir = 256
-unpaddedBlockEnd told W Nav = nextStart (W 35) told (W 35 ∷ W 63 ∷ W 60 ∷ W 34 ∷ [])
-unpaddedBlockEnd told W Cal = nextStart (W 63) told (W 35 ∷ W 63 ∷ W 60 ∷ W 34 ∷ [])
-unpaddedBlockEnd told W Aux = nextStart (W 60) told (W 35 ∷ W 63 ∷ W 60 ∷ W 34 ∷ [])
-unpaddedBlockEnd told W Data = W 34 + W 9 * (W 15 + W 14 * W 10 * W 11)
-unpaddedBlockEnd told W Audit = W 34 + W 9 * (W 15 + W 14 * W 10 * W 11) + 80 * W 64
+abbrev pub unpadded_block_end : ℕ → (ℕ → ℕ) → Block → ℕ
+unpadded_block_end told W Dir = 256
+unpadded_block_end told W Nav = next_start (W 35) told (W 35 ∷ W 63 ∷ W 60 ∷ W 34 ∷ [])
+unpadded_block_end told W Cal = next_start (W 63) told (W 35 ∷ W 63 ∷ W 60 ∷ W 34 ∷ [])
+unpadded_block_end told W Aux = next_start (W 60) told (W 35 ∷ W 63 ∷ W 60 ∷ W 34 ∷ [])
+unpadded_block_end told W Data = W 34 + W 9 * (W 15 + W 14 * W 10 * W 11)
+unpadded_block_end told W Audit = W 34 + W 9 * (W 15 + W 14 * W 10 * W 11) + 80 * W 64
 
 -- every part of a file of `told` bytes with words W and layout l is where document 01 has it, and there is no padding
 pub record UnpaddedPlaces (told : ℕ) (W : ℕ → ℕ) (l : AreaLayout) : Type 0 where
   pub padding : l.padding ≡ 0
-  pub samples : (i e s : ℕ) → sampleAddress l i e s ≡ W 34 + i * (W 15 + W 14 * W 10 * W 11) + W 15 + (e * W 14 + s) * W 11
-  pub validity : (i : ℕ) → (regionStart l i Validity ≡ lineStart l i) × (regionLength l Validity ≡ validityLength (eqb (W 36) 0))
+  pub samples : (i e s : ℕ) → sample_address l i e s ≡ W 34 + i * (W 15 + W 14 * W 10 * W 11) + W 15 + (e * W 14 + s) * W 11
+  pub validity : (i : ℕ) → (region_start l i Validity ≡ line_start l i) × (region_length l Validity ≡ validity_length (eqb (W 36) 0))
   pub documentation : (i : ℕ)
-      → (regionStart l i Documentation ≡ lineStart l i + validityLength (eqb (W 36) 0)) × (regionLength l Documentation ≡ W 49)
+      → (region_start l i Documentation ≡ line_start l i + validity_length (eqb (W 36) 0)) × (region_length l Documentation ≡ W 49)
   pub calibration : (i : ℕ)
-      → (regionStart l i Calibration ≡ lineStart l i + validityLength (eqb (W 36) 0) + W 49) × (regionLength l Calibration ≡ W 50)
-  pub band-list : (i : ℕ)
-      → (regionStart l i BandList ≡ lineStart l i + validityLength (eqb (W 36) 0) + W 49 + W 50) × (regionLength l BandList ≡ W 51)
-  pub lines : (i : ℕ) → lineStart l i ≡ W 34 + i * (W 15 + W 14 * W 10 * W 11)
-  pub blocks : (b : Block) → (blockStart l b ≡ unpaddedBlockStart W b) × (blockEnd l b ≡ unpaddedBlockEnd told W b)
+      → (region_start l i Calibration ≡ line_start l i + validity_length (eqb (W 36) 0) + W 49) × (region_length l Calibration ≡ W 50)
+  pub band_list : (i : ℕ)
+      → (region_start l i BandList ≡ line_start l i + validity_length (eqb (W 36) 0) + W 49 + W 50) × (region_length l BandList ≡ W 51)
+  pub lines : (i : ℕ) → line_start l i ≡ W 34 + i * (W 15 + W 14 * W 10 * W 11)
+  pub blocks : (b : Block) → (block_start l b ≡ unpadded_block_start W b) × (block_end l b ≡ unpadded_block_end told W b)
 
 module _ (o : Order) (told : ℕ) (W : ℕ → ℕ) where
-  blocks-there : (b : Block)
-      → (blockStart (unpaddedLayoutOf o told W) b ≡ unpaddedBlockStart W b) × (blockEnd (unpaddedLayoutOf o told W) b ≡ unpaddedBlockEnd told W b)
-  unfolding unpaddedLayoutOf
-  blocks-there Dir = (refl, refl)
-  blocks-there Nav = (refl, refl)
-  blocks-there Cal = (refl, refl)
-  blocks-there Aux = (refl, refl)
-  blocks-there Data = (refl, refl)
-  blocks-there Audit = (refl, refl)
+  blocks_there : (b : Block)
+      → (block_start (unpadded_layout_of o told W) b ≡ unpadded_block_start W b) × (block_end (unpadded_layout_of o told W) b ≡ unpadded_block_end told W b)
+  unfolding unpadded_layout_of
+  blocks_there Dir = (refl, refl)
+  blocks_there Nav = (refl, refl)
+  blocks_there Cal = (refl, refl)
+  blocks_there Aux = (refl, refl)
+  blocks_there Data = (refl, refl)
+  blocks_there Audit = (refl, refl)
 
   -- the parts of the layout that document 01 alone gives are there
-  layout-places : UnpaddedPlaces told W (unpaddedLayoutOf o told W)
-  unfolding unpaddedLayoutOf
-  layout-places =
+  layout_places : UnpaddedPlaces told W (unpadded_layout_of o told W)
+  unfolding unpadded_layout_of
+  layout_places =
       record {
         padding = refl;
         samples = λ i e s. refl;
         validity = λ i. (omega arith, refl);
         documentation = λ i. (omega arith, refl);
         calibration = λ i. (omega arith, refl);
-        band-list = λ i. (omega arith, refl);
+        band_list = λ i. (omega arith, refl);
         lines = λ i. refl;
-        blocks = blocks-there;
+        blocks = blocks_there;
       }
 
 -- and so are those of a file that document 01 alone accepts
-pub unpadded-places : (f : List ℕ) (l : AreaLayout) → openUnpadded f ≡ gives l → UnpaddedPlaces (length f) (words_of f) l
-unfolding openUnpadded
-unpadded-places f l e =
-    subst (UnpaddedPlaces (length f) (words_of f)) (sym ((value-exactly (unpaddedRules (length f) f) _ l).0 e).1)
-    (layout-places (areaOrder f) (length f) (words_of f))
+pub unpadded_places : (f : List ℕ) (l : AreaLayout) → open_unpadded f ≡ gives l → UnpaddedPlaces (length f) (words_of f) l
+unfolding open_unpadded
+unpadded_places f l e =
+    subst (UnpaddedPlaces (length f) (words_of f)) (sym ((value_exactly (unpadded_rules (length f) f) _ l).0 e).1)
+    (layout_places (area_order f) (length f) (words_of f))
 
 -- ---- a file that document 01 alone refuses
 
 -- "a documentation length of 226 .., which document 01 refuses at word 49" (document 02, request 4)
-pub imager-unpadded : openUnpadded imager ≡ refuses 4 49
-unfolding openUnpadded unpaddedRules unpaddedShapeRules areaCountRules areaPlaceRules directoryOf word_in firstFault first judge within at_least list_of word_at number_at decode encode value digits given bytes_of fileImager imager
-imager-unpadded = refl
+pub imager_unpadded : open_unpadded imager ≡ refuses 4 49
+unfolding open_unpadded unpadded_rules unpadded_shape_rules area_count_rules area_place_rules directory_of word_in first_fault first judge within at_least list_of word_at number_at decode encode value digits given bytes_of file_imager imager
+imager_unpadded = refl

@@ -3,7 +3,7 @@
 use Rattle.std.specs.Prelude.{◌≡◌, ◌⊎◌, List, ℕ, ◌%◌, ◌≤◌, ◌<◌, length}
 use Rattle.endian_rules.specs.Words.{word_at, AtLeast}
 use Rattle.endian_rules.specs.declared.Order.TheVariants.{Big, Little}
-use Rattle.area_rules.specs.Rules.{directoryOf, word_in, areaOrder, prefixLengthOf, lineLengthOf, auditEndOf}
+use Rattle.area_rules.specs.Rules.{directory_of, word_in, area_order, prefix_length_of, line_length_of, audit_end_of}
 
 -- a sample may have n bytes: "W11 is 1, 2 or 4"
 abbrev pub IsWidth : ℕ → Type 0
@@ -26,17 +26,17 @@ pub record AcceptsAreaWords (told : ℕ) (W : ℕ → ℕ) : Type 0 where
   pub w51 : (0 ≤ W 51) × (W 51 ≤ 65535)
   pub w61 : (0 ≤ W 61) × (W 61 ≤ 65535)
   pub w64 : (0 ≤ W 64) × (W 64 ≤ 65535)
-  pub w15 : W 15 ≡ prefixLengthOf W
-  pub line : lineLengthOf W % 4 ≡ 0
+  pub w15 : W 15 ≡ prefix_length_of W
+  pub line : line_length_of W % 4 ≡ 0
   pub entries : (¬ (W 60 ≡ 0)) ⊎ (W 61 ≡ 0)
-  pub w34 : AtLeast 256 (W 34) × (auditEndOf W ≤ told)
-  pub w35 : BlockStartFits told (W 34) (auditEndOf W) (W 35) (Unit {0})
-  pub w63 : BlockStartFits told (W 34) (auditEndOf W) (W 63) (¬ (W 63 ≡ W 35))
-  pub w60 : BlockStartFits told (W 34) (auditEndOf W) (W 60) ((¬ (W 60 ≡ W 35)) × (¬ (W 60 ≡ W 63)))
+  pub w34 : AtLeast 256 (W 34) × (audit_end_of W ≤ told)
+  pub w35 : BlockStartFits told (W 34) (audit_end_of W) (W 35) (Unit {0})
+  pub w63 : BlockStartFits told (W 34) (audit_end_of W) (W 63) (¬ (W 63 ≡ W 35))
+  pub w60 : BlockStartFits told (W 34) (audit_end_of W) (W 60) ((¬ (W 60 ≡ W 35)) × (¬ (W 60 ≡ W 63)))
 
 -- A file of `told` bytes that begins with the bytes d is accepted: all rules hold.
 pub record AcceptsArea (told : ℕ) (d : List ℕ) : Type 0 where
   pub long : 256 ≤ told
   pub directory : 256 ≤ length d
   pub w2 : (word_at Big d 1 ≡ 4) ⊎ (word_at Little d 1 ≡ 4)
-  pub words : AcceptsAreaWords told (word_in (directoryOf (areaOrder d) d))
+  pub words : AcceptsAreaWords told (word_in (directory_of (area_order d) d))

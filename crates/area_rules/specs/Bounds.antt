@@ -6,8 +6,8 @@ use Rattle.lists.specs.Choices.{both}
 use Rattle.area_rules.specs.declared.AreaLayout.{AreaLayout}
 
 -- whether lines, elements, bytes of a sample and bands of a layout are at most what opening accepts
-unfoldable pub areaBounded : AreaLayout → Bool
-areaBounded a = both (leb a.lines 65535) (both (leb a.elements 65535) (both (leb a.width 4) (leb a.bands 64)))
+unfoldable pub area_bounded : AreaLayout → Bool
+area_bounded a = both (leb a.lines 65535) (both (leb a.elements 65535) (both (leb a.width 4) (leb a.bands 64)))
 
 -- lines, elements, bytes of a sample and bands of a layout are at most what opening accepts
 pub record AreaBounds (a : AreaLayout) : Type 0 where

@@ -5,9 +5,9 @@ use Rattle.std.specs.Prelude.{◌≡◌, List, [], ◌∷◌, ◌++◌, true, fa
 use Rattle.endian_rules.specs.Files.{given, bytes_of}
 use Rattle.endian_rules.specs.declared.Order.TheVariants.{Big}
 use Rattle.refusal_rules.specs.Answers.{gives, refuses}
-use Rattle.area_rules.specs.Lines.{prefixLength, paddingLength}
-use Rattle.area_rules.specs.Opening.{openArea}
-use Rattle.area_rules.specs.Samples.{sampleAddress}
+use Rattle.area_rules.specs.Lines.{prefix_length, padding_length}
+use Rattle.area_rules.specs.Opening.{open_area}
+use Rattle.area_rules.specs.Samples.{sample_address}
 use Rattle.area_rules.specs.declared.AreaLayout.{AreaLayout}
 
 -- word k, counted from 1, is n: how the worked files give their words
@@ -15,16 +15,16 @@ abbrev pub W : ℕ → ℕ → ℕ × ℕ
 W k n = (k - 1, n)
 
 -- P, with so many bytes after its directory: big, W2 = 4, W9 = 2, W10 = 4, W11 = 1, W14 = 1, W34 = 256
-unfoldable pub fileP : ℕ → List ℕ
-fileP rest = bytes_of Big (given 64 (W 2 4 ∷ W 9 2 ∷ W 10 4 ∷ W 11 1 ∷ W 14 1 ∷ W 34 256 ∷ [])) ++ replicate rest 0
+unfoldable pub file_p : ℕ → List ℕ
+file_p rest = bytes_of Big (given 64 (W 2 4 ∷ W 9 2 ∷ W 10 4 ∷ W 11 1 ∷ W 14 1 ∷ W 34 256 ∷ [])) ++ replicate rest 0
 
 -- P has 264 bytes
 unfoldable pub P : List ℕ
-P = fileP 8
+P = file_p 8
 
 -- B, but for W35 and W15: 520 bytes, big, W2 = 4, W9 = 2, W10 = 3, W11 = 2, W14 = 2, W36 = 1, W49 = 8, W51 = 4, W34 = 384, W64 = 1
-unfoldable pub fileB : ℕ → ℕ → List ℕ
-fileB w35 w15 =
+unfoldable pub file_b : ℕ → ℕ → List ℕ
+file_b w35 w15 =
     bytes_of Big
     (given 64
     (W 2 4
@@ -44,11 +44,11 @@ fileB w35 w15 =
 
 -- B has W35 = 256 and W15 = 16
 unfoldable pub B : List ℕ
-B = fileB 256 16
+B = file_b 256 16
 
 -- the layout of P
-unfoldable pub layoutP : AreaLayout
-layoutP =
+unfoldable pub layout_p : AreaLayout
+layout_p =
     record {
       order = Big;
       length = 264;
@@ -72,8 +72,8 @@ layoutP =
     }
 
 -- the layout of B
-unfoldable pub layoutB : AreaLayout
-layoutB =
+unfoldable pub layout_b : AreaLayout
+layout_b =
     record {
       order = Big;
       length = 520;
@@ -98,8 +98,8 @@ layoutB =
 
 -- A file with the prefix of document 02, request 4, but for W15: 728 bytes, big, W2 = 4, W9 = 2, W10 = 4, W11 = 1, W14 = 1, W34 = 256, W36 = 1, W49 = 226.
 -- Each of its two lines has "226 with a validity code alone", and four samples.
-unfoldable pub fileImager : ℕ → List ℕ
-fileImager w15 =
+unfoldable pub file_imager : ℕ → List ℕ
+file_imager w15 =
     bytes_of Big
     (given 64
     (W 2 4
@@ -116,11 +116,11 @@ fileImager w15 =
 
 -- "W15 is 232 and the padding 2"
 unfoldable pub imager : List ℕ
-imager = fileImager 232
+imager = file_imager 232
 
 -- the layout of the imager file
-unfoldable pub layoutImager : AreaLayout
-layoutImager =
+unfoldable pub layout_imager : AreaLayout
+layout_imager =
     record {
       order = Big;
       length = 728;
@@ -146,13 +146,13 @@ layoutImager =
 -- they have the sizes that document 01 gives, or that are said above, and these layouts
 pub record WorkedArea : Type 0 where
   pub sizes : (length P ≡ 264) × ((length B ≡ 520) × (length imager ≡ 728))
-  pub P-opens : openArea P ≡ gives layoutP
-  pub B-opens : openArea B ≡ gives layoutB
-  pub imager-opens : openArea imager ≡ gives layoutImager
+  pub p_opens : open_area P ≡ gives layout_p
+  pub b_opens : open_area B ≡ gives layout_b
+  pub imager_opens : open_area imager ≡ gives layout_imager
   -- "For 226 with a validity code alone, W15 is 232 and the padding 2."
-  pub imager-prefix : (prefixLength false 226 0 0 ≡ 232) × (paddingLength false 226 0 0 ≡ 2)
+  pub imager_prefix : (prefix_length false 226 0 0 ≡ 232) × (padding_length false 226 0 0 ≡ 2)
   -- so W15 is neither the sum nor the multiple of four below it, which is also 226 rounded up without the validity code
-  pub imager-sum : openArea (fileImager 230) ≡ refuses 4 15
-  pub imager-below : openArea (fileImager 228) ≡ refuses 4 15
+  pub imager_sum : open_area (file_imager 230) ≡ refuses 4 15
+  pub imager_below : open_area (file_imager 228) ≡ refuses 4 15
   -- bands are interleaved: element 1 of slot 0 comes behind both slots of element 0
-  pub B-interleaved : sampleAddress layoutB 0 1 0 ≡ 404
+  pub b_interleaved : sample_address layout_b 0 1 0 ≡ 404

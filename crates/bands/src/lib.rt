@@ -1,7 +1,7 @@
 // The band map of an AREA file: the slot at which a band lies within each element.
 ghost use Rattle.std.specs.Prelude.{◌≡◌, ◌<◌, ◌≤◌};
-ghost use Rattle.refusal_rules.specs.Answers.{numberSays};
-ghost use Rattle.area_rules.specs.Bands.{secondMap, mapBit, setBelow, hasBand, bandSlot, slot_of};
+ghost use Rattle.refusal_rules.specs.Answers.{number_says};
+ghost use Rattle.area_rules.specs.Bands.{second_map, map_bit, set_below, has_band, band_slot, slot_of};
 
 use area_rules::{AreaLayout, SlotOrBand};
 use refusal::{check, within};
@@ -9,7 +9,7 @@ use refusal_rules::{NO_SUCH, NumberAnswer, RULE_BROKEN, Verdict};
 
 // The second word of the band map of so many bands, as it counts: 0 unless there are more than 32.
 pub fn second_map(bands: u32, map2: u32) -> u32
-    ensures { result ≡ secondMap bands map2 }
+    ensures { result ≡ second_map bands map2 }
 {
     if bands <= 32 { 0 } else { map2 }
 }
@@ -17,7 +17,7 @@ pub fn second_map(bands: u32, map2: u32) -> u32
 // Bit i of the band map, that of band i + 1. The second word is given as it counts.
 fn map_bit(map: u32, map2: u32, i: u32) -> u32
     requires { i < 64 }
-    ensures { result ≡ mapBit map map2 i }
+    ensures { result ≡ map_bit map map2 i }
 {
     if i < 32 {
         (map >> i) & 1
@@ -29,7 +29,7 @@ fn map_bit(map: u32, map2: u32, i: u32) -> u32
 // How many of the bits below bit n are set.
 fn set_below(map: u32, map2: u32, n: u32) -> u32
     requires { n ≤ 64 }
-    ensures { result ≡ setBelow map map2 n }
+    ensures { result ≡ set_below map map2 n }
 {
     let mut count: u32 = 0;
     let mut i: u32 = 0;
@@ -42,7 +42,7 @@ fn set_below(map: u32, map2: u32, n: u32) -> u32
 
 // Whether the map has a band.
 fn has_band(map: u32, map2: u32, band: u32) -> bool
-    ensures { result ≡ hasBand map map2 band }
+    ensures { result ≡ has_band map map2 band }
 {
     if within(1, 64, band) {
         map_bit(map, map2, band - 1) == 1
@@ -54,7 +54,7 @@ fn has_band(map: u32, map2: u32, band: u32) -> bool
 // The slot of a band in a map of `bands` bands, of which the second word counts only where there are more than 32. Refused with 4 at 19 where the map has not that many
 // set bits, and with 7 where it has no such band.
 fn slot_of_band(map: u32, map2: u32, bands: u32, band: u32) -> NumberAnswer
-    ensures { numberSays result ≡ bandSlot map map2 bands band }
+    ensures { number_says result ≡ band_slot map map2 bands band }
 {
     let second = second_map(bands, map2);
     let usable = set_below(map, second, 64) == bands;
@@ -68,7 +68,7 @@ fn slot_of_band(map: u32, map2: u32, bands: u32, band: u32) -> NumberAnswer
 // The slot that a slot or band of a layout means. Refused with 4 at 19 where a band is named and the band map is unusable, and with 7 where there is no such
 // slot or band.
 pub fn slot_of(layout: AreaLayout, which: SlotOrBand) -> NumberAnswer
-    ensures { numberSays result ≡ slot_of layout which }
+    ensures { number_says result ≡ slot_of layout which }
 {
     match which {
         SlotOrBand::Slot(slot) => match check(Verdict::Pass, slot < layout.bands, NO_SUCH, 0) {

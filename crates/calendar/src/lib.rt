@@ -1,8 +1,8 @@
 // Dates and times of day, as file headers have them: what a date word and a time word answer.
 ghost use Rattle.std.specs.Prelude.{◌≡◌, ◌<◌, ◌≤◌, pos};
-ghost use Rattle.calendar_rules.specs.Gregorian.{leap, daysBefore, yearLength, monthOf, dateIn};
-ghost use Rattle.calendar_rules.specs.Dates.{dateSays, dateOf};
-ghost use Rattle.calendar_rules.specs.Times.{timeSays, timeOf};
+ghost use Rattle.calendar_rules.specs.Gregorian.{leap, days_before, year_length, month_of, date_in};
+ghost use Rattle.calendar_rules.specs.Dates.{date_says, date_of};
+ghost use Rattle.calendar_rules.specs.Times.{time_says, time_of};
 
 use calendar_rules::{Date, DateAnswer, TimeAnswer, TimeOfDay};
 use refusal::{and, check, or, within};
@@ -17,7 +17,7 @@ const DAYS_BEFORE: [u32; 24] = [
 // The days of a year before a month, which is counted from 0.
 fn days_before(leap: bool, month: usize) -> u32
     requires { month < 12 }
-    ensures { result ≡ daysBefore leap month }
+    ensures { result ≡ days_before leap month }
 {
     if leap {
         DAYS_BEFORE[12 + month]
@@ -35,14 +35,14 @@ fn is_leap(year: u32) -> bool
 
 // The days of a year.
 fn year_length(leap: bool) -> u32
-    ensures { result ≡ yearLength leap }
+    ensures { result ≡ year_length leap }
 {
     if leap { 366 } else { 365 }
 }
 
 // The month, counted from 0, in which a day of the year lies: the last that begins before the day ends.
 fn month_of(leap: bool, day: u32) -> usize
-    ensures { result ≡ monthOf leap day }
+    ensures { result ≡ month_of leap day }
 {
     let mut month: usize = 11;
     while 0 < month {
@@ -57,7 +57,7 @@ fn month_of(leap: bool, day: u32) -> usize
 // The date of a day of a year.
 fn date_in(year: u32, day: u32) -> Date
     requires { 1 ≤ day }
-    ensures { result ≡ dateIn year day }
+    ensures { result ≡ date_in year day }
 {
     let leap = is_leap(year);
     let month = month_of(leap, day);
@@ -70,7 +70,7 @@ fn date_in(year: u32, day: u32) -> Date
 
 // The date of a word that is not negative, or refusal 11.
 fn date_of_number(n: u32) -> DateAnswer
-    ensures { dateSays result ≡ dateOf (pos n) }
+    ensures { date_says result ≡ date_of (pos n) }
 {
     let year = 1900 + n / 1000;
     let day = n % 1000;
@@ -85,7 +85,7 @@ fn date_of_number(n: u32) -> DateAnswer
 // The date of a word yyyddd: 1000 times the years since 1900, and the day of the year. Refused with 11 where the word is
 // negative or above 999,999, or its day is not one of that year.
 pub fn date_of(word: i32) -> DateAnswer
-    ensures { dateSays result ≡ dateOf word }
+    ensures { date_says result ≡ date_of word }
 {
     if 0 <= word {
         return date_of_number(word as u32);
@@ -98,7 +98,7 @@ pub fn date_of(word: i32) -> DateAnswer
 
 // The time of day of a word that is not negative, or refusal 11.
 fn time_of_number(n: u32) -> TimeAnswer
-    ensures { timeSays result ≡ timeOf (pos n) }
+    ensures { time_says result ≡ time_of (pos n) }
 {
     let hours = n / 10000;
     let minutes = n / 100 % 100;
@@ -118,7 +118,7 @@ fn time_of_number(n: u32) -> TimeAnswer
 // The time of day of a word hhmmss. Refused with 11 where the word is negative, its hours are above 23, or its minutes or
 // seconds above 59.
 pub fn time_of(word: i32) -> TimeAnswer
-    ensures { timeSays result ≡ timeOf word }
+    ensures { time_says result ≡ time_of word }
 {
     if 0 <= word {
         return time_of_number(word as u32);

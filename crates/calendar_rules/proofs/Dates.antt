@@ -11,25 +11,25 @@ use lib.ListN.{get_or}
 use borrow.Author.Tests.{leb-true, le-leb}
 use Rattle.refusal_rules.specs.Rules.{Hold}
 use Rattle.refusal_rules.specs.Answers.{Answer, gives, refuses}
-use Rattle.refusal_rules.proofs.Exactness.{within-exactly}
-use Rattle.refusal_rules.proofs.Answers.{settled, value-exactly, exactly-one, exactly-none}
-use Rattle.calendar_rules.specs.Gregorian.{leap, monthLengths, daysBefore, yearLength, IsDate, dayOfYear, monthOf, dateIn}
-use Rattle.calendar_rules.specs.Dates.{dateSays, yearOf, dayOf, dateRules, dateOf, DateWord}
+use Rattle.refusal_rules.proofs.Exactness.{within_exactly}
+use Rattle.refusal_rules.proofs.Answers.{settled, value_exactly, exactly_one, exactly_none}
+use Rattle.calendar_rules.specs.Gregorian.{leap, month_lengths, days_before, year_length, IsDate, day_of_year, month_of, date_in}
+use Rattle.calendar_rules.specs.Dates.{date_says, year_of, day_of, date_rules, date_of, DateWord}
 use Rattle.calendar_rules.specs.declared.Date.{Date}
 use Rattle.calendar_rules.specs.declared.DateAnswer.{DateAnswer}
 use Rattle.calendar_rules.specs.declared.DateAnswer.TheVariants.{On, Refused}
-use Rattle.calendar_rules.proofs.Months.{days-mono, year-most, month-only, Lies, month-lies}
+use Rattle.calendar_rules.proofs.Months.{days_mono, year_most, month_only, Lies, month_lies}
 
 -- what a date call's answer says settles the answer
 back : Answer Date → DateAnswer
 back (gives d) = On d
 back (refuses n p) = Refused (record { number = n; place = p })
 
-pub date-settled : (x y : DateAnswer) → dateSays x ≡ dateSays y → x ≡ y
+pub date_settled : (x y : DateAnswer) → date_says x ≡ date_says y → x ≡ y
 unfolding back
-date-settled = settled dateSays back (λ x. step x)
+date_settled = settled date_says back (λ x. step x)
   where
-    step : (x : DateAnswer) → back (dateSays x) ≡ x
+    step : (x : DateAnswer) → back (date_says x) ≡ x
     step (On d) = refl
     step (Refused r) = refl
 
@@ -38,52 +38,52 @@ date-settled = settled dateSays back (λ x. step x)
 -- what the rules say of a word that is not negative
 pub record Accepted (n : ℕ) : Type 0 where
   pub range : n ≤ 999999
-  pub day-from : 1 ≤ dayOf (pos n)
-  pub day-to : dayOf (pos n) ≤ yearLength (leap (yearOf (pos n)))
+  pub day_from : 1 ≤ day_of (pos n)
+  pub day_to : day_of (pos n) ≤ year_length (leap (year_of (pos n)))
 
 -- where they hold
-pub hold-accepted : (n : ℕ) → Hold (dateRules (pos n)) → Accepted n
-unfolding dateRules
-hold-accepted n h =
-    let day : (1 ≤ dayOf (pos n)) × (dayOf (pos n) ≤ yearLength (leap (yearOf (pos n)))) =
-    (within-exactly 1 (yearLength (leap (yearOf (pos n)))) (dayOf (pos n))).sound h.1.1.0 in
-    record { range = leb-true n 999999 h.1.0; day-from = day.0; day-to = day.1 }
+pub hold_accepted : (n : ℕ) → Hold (date_rules (pos n)) → Accepted n
+unfolding date_rules
+hold_accepted n h =
+    let day : (1 ≤ day_of (pos n)) × (day_of (pos n) ≤ year_length (leap (year_of (pos n)))) =
+    (within_exactly 1 (year_length (leap (year_of (pos n)))) (day_of (pos n))).sound h.1.1.0 in
+    record { range = leb-true n 999999 h.1.0; day_from = day.0; day_to = day.1 }
 
-accepted-hold : (n : ℕ) → Accepted n → Hold (dateRules (pos n))
-unfolding dateRules
-accepted-hold n a = (
+accepted_hold : (n : ℕ) → Accepted n → Hold (date_rules (pos n))
+unfolding date_rules
+accepted_hold n a = (
   leb-zero n,
   (
     le-leb n 999999 a.range,
-    ((within-exactly 1 (yearLength (leap (yearOf (pos n)))) (dayOf (pos n))).complete (a.day-from, a.day-to), tt),
+    ((within_exactly 1 (year_length (leap (year_of (pos n)))) (day_of (pos n))).complete (a.day_from, a.day_to), tt),
   ),
 )
 
 -- they do not hold of a negative word
-hold-negative : (n : ℕ) → Hold (dateRules (negsuc n)) → ⊥
-unfolding dateRules
-hold-negative n h = false≢true h.0
+hold_negative : (n : ℕ) → Hold (date_rules (negsuc n)) → ⊥
+unfolding date_rules
+hold_negative n h = false≢true h.0
 
 -- ---- from a word to its date
 
 -- the date of an accepted word is one, and the word is its yyyddd
-accepted-word : (n : ℕ) → Accepted n → DateWord (pos n) (dateIn (yearOf (pos n)) (dayOf (pos n)))
-unfolding dateIn daysBefore
-accepted-word n a =
-    let isLeap : Bool = leap (yearOf (pos n)) in
-    let m : ℕ = monthOf isLeap (dayOf (pos n)) in
-    let l : Lies isLeap (dayOf (pos n)) 11 m = month-lies isLeap (dayOf (pos n)) 11 in
-    let starts : daysBefore isLeap m < dayOf (pos n) = l.starts a.day-from in
-    let ends : dayOf (pos n) ≤ daysBefore isLeap m + get_or (monthLengths isLeap) m 0 = l.ends a.day-to in
+accepted_word : (n : ℕ) → Accepted n → DateWord (pos n) (date_in (year_of (pos n)) (day_of (pos n)))
+unfolding date_in days_before
+accepted_word n a =
+    let isLeap : Bool = leap (year_of (pos n)) in
+    let m : ℕ = month_of isLeap (day_of (pos n)) in
+    let l : Lies isLeap (day_of (pos n)) 11 m = month_lies isLeap (day_of (pos n)) 11 in
+    let starts : days_before isLeap m < day_of (pos n) = l.starts a.day_from in
+    let ends : day_of (pos n) ≤ days_before isLeap m + get_or (month_lengths isLeap) m 0 = l.ends a.day_to in
     let same : m + 1 - 1 ≡ m = omega arith in
-    let whole : n ≡ 1000 * (yearOf (pos n) - 1900) + (daysBefore isLeap m + (dayOf (pos n) - daysBefore isLeap m)) = omega arith in
+    let whole : n ≡ 1000 * (year_of (pos n) - 1900) + (days_before isLeap m + (day_of (pos n) - days_before isLeap m)) = omega arith in
     record {
       date =
           record {
-            month-from = omega arith;
-            month-to = omega (arith, l.month);
-            day-from = omega arith;
-            day-to = rw same (omega arith);
+            month_from = omega arith;
+            month_to = omega (arith, l.month);
+            day_from = omega arith;
+            day_to = rw same (omega arith);
           };
       since = omega arith;
       yyyddd = rw same (ap pos whole);
@@ -94,59 +94,59 @@ accepted-word n a =
 
 -- the day of the year of a date, and the month in which it lies
 module _ (d : Date) (is : IsDate d) where
-  ends : dayOfYear d ≤ daysBefore (leap d.year) (suc (d.month - 1))
-  unfolding daysBefore
-  ends = omega (arith, is.day-to)
+  ends : day_of_year d ≤ days_before (leap d.year) (suc (d.month - 1))
+  unfolding days_before
+  ends = omega (arith, is.day_to)
 
-  day-to-year : dayOfYear d ≤ yearLength (leap d.year)
-  day-to-year = omega (arith, ends, days-mono (leap d.year) (suc (d.month - 1)) 12 (omega (arith, is.month-from, is.month-to)))
+  day_to_year : day_of_year d ≤ year_length (leap d.year)
+  day_to_year = omega (arith, ends, days_mono (leap d.year) (suc (d.month - 1)) 12 (omega (arith, is.month_from, is.month_to)))
 
-  date-back : d ≡ dateIn d.year (dayOfYear d)
-  unfolding dateIn
+  date-back : d ≡ date_in d.year (day_of_year d)
+  unfolding date_in
   date-back =
-      let m : monthOf (leap d.year) (dayOfYear d) ≡ d.month - 1 =
-      month-only (leap d.year) (dayOfYear d) (d.month - 1) 11 (omega (arith, is.month-to)) (omega (arith, is.day-from)) ends in
-      let month : d.month ≡ monthOf (leap d.year) (dayOfYear d) + 1 = omega (arith, is.month-from) in
-      let day : d.day ≡ dayOfYear d - daysBefore (leap d.year) (monthOf (leap d.year) (dayOfYear d)) = rw m (omega arith) in
+      let m : month_of (leap d.year) (day_of_year d) ≡ d.month - 1 =
+      month_only (leap d.year) (day_of_year d) (d.month - 1) 11 (omega (arith, is.month_to)) (omega (arith, is.day_from)) ends in
+      let month : d.month ≡ month_of (leap d.year) (day_of_year d) + 1 = omega (arith, is.month_from) in
+      let day : d.day ≡ day_of_year d - days_before (leap d.year) (month_of (leap d.year) (day_of_year d)) = rw m (omega arith) in
       λ i. record { year = d.year; month = month i; day = day i }
 
 -- the rules hold of the yyyddd of a date, and the date that it gives is that one
-word-accepted : (d : Date) (n : ℕ) → DateWord (pos n) d → Accepted n × (d ≡ dateIn (yearOf (pos n)) (dayOf (pos n)))
-word-accepted d n w =
-    let e : n ≡ 1000 * (d.year - 1900) + dayOfYear d = cc w.yyyddd in
-    let most : dayOfYear d ≤ 366 = omega (arith, day-to-year d w.date, year-most (leap d.year)) in
-    let year : d.year ≡ yearOf (pos n) = omega (arith, w.since) in
-    let day : dayOfYear d ≡ dayOf (pos n) = omega arith in (
+word_accepted : (d : Date) (n : ℕ) → DateWord (pos n) d → Accepted n × (d ≡ date_in (year_of (pos n)) (day_of (pos n)))
+word_accepted d n w =
+    let e : n ≡ 1000 * (d.year - 1900) + day_of_year d = cc w.yyyddd in
+    let most : day_of_year d ≤ 366 = omega (arith, day_to_year d w.date, year_most (leap d.year)) in
+    let year : d.year ≡ year_of (pos n) = omega (arith, w.since) in
+    let day : day_of_year d ≡ day_of (pos n) = omega arith in (
       record {
         range = omega (arith, w.range);
-        day-from = omega (arith, w.date.day-from);
-        day-to = rw (← day, ← year) (day-to-year d w.date);
+        day_from = omega (arith, w.date.day_from);
+        day_to = rw (← day, ← year) (day_to_year d w.date);
       },
-      date-back d w.date ∙ ap₂ dateIn year day,
+      date-back d w.date ∙ ap₂ date_in year day,
     )
 
 -- ---- the claim
 
 -- the answer is a date exactly where the word is that date's yyyddd
-pub date-exactly : (z : ℤ) (d : Date) → (dateOf z ≡ gives d) ↔ DateWord z d
-unfolding dateOf
-date-exactly (pos n) d =
-    let x = value-exactly (dateRules (pos n)) (dateIn (yearOf (pos n)) (dayOf (pos n))) d in (
-      λ e. rw (x.0 e).1 (accepted-word n (hold-accepted n (x.0 e).0)),
-      λ w. let a = word-accepted d n w in x.1 (accepted-hold n a.0, a.1),
+pub date_exactly : (z : ℤ) (d : Date) → (date_of z ≡ gives d) ↔ DateWord z d
+unfolding date_of
+date_exactly (pos n) d =
+    let x = value_exactly (date_rules (pos n)) (date_in (year_of (pos n)) (day_of (pos n))) d in (
+      λ e. rw (x.0 e).1 (accepted_word n (hold_accepted n (x.0 e).0)),
+      λ w. let a = word_accepted d n w in x.1 (accepted_hold n a.0, a.1),
     )
-date-exactly (negsuc n) d =
-    let x = value-exactly (dateRules (negsuc n)) (dateIn (yearOf (negsuc n)) (dayOf (negsuc n))) d in
-    (λ e. absurd (hold-negative n (x.0 e).0), λ w. absurd (pos-ne-negsuc _ n (sym w.yyyddd)))
+date_exactly (negsuc n) d =
+    let x = value_exactly (date_rules (negsuc n)) (date_in (year_of (negsuc n)) (day_of (negsuc n))) d in
+    (λ e. absurd (hold_negative n (x.0 e).0), λ w. absurd (pos-ne-negsuc _ n (sym w.yyyddd)))
 
 -- so there is at most one such date
-pub date-only : (z : ℤ) (d e : Date) → DateWord z d → DateWord z e → d ≡ e
-unfolding dateOf
-date-only = exactly-one DateWord dateRules (λ z. dateIn (yearOf z) (dayOf z)) date-exactly
+pub date_only : (z : ℤ) (d e : Date) → DateWord z d → DateWord z e → d ≡ e
+unfolding date_of
+date_only = exactly_one DateWord date_rules (λ z. date_in (year_of z) (day_of z)) date_exactly
 
 -- and the answer is refusal 11 at place 0 exactly where there is none
-pub date-refused : (z : ℤ) → (dateOf z ≡ refuses 11 0) ↔ ((d : Date) → ¬ DateWord z d)
-unfolding dateOf dateRules
-date-refused =
-    exactly-none DateWord dateRules (λ z. dateIn (yearOf z) (dayOf z)) date-exactly (record { number = 11; place = 0 })
+pub date_refused : (z : ℤ) → (date_of z ≡ refuses 11 0) ↔ ((d : Date) → ¬ DateWord z d)
+unfolding date_of date_rules
+date_refused =
+    exactly_none DateWord date_rules (λ z. date_in (year_of z) (day_of z)) date_exactly (record { number = 11; place = 0 })
     (λ z. (refl, (refl, (refl, tt))))

@@ -10,8 +10,8 @@ use lib.IntN.{ℤ, pos, negsuc, pos-ne-negsuc}
 use borrow.Author.Tests.{leb-true, le-leb}
 use Rattle.refusal_rules.specs.Rules.{Hold}
 use Rattle.refusal_rules.specs.Answers.{Answer, gives, refuses}
-use Rattle.refusal_rules.proofs.Answers.{settled, value-exactly, exactly-one, exactly-none}
-use Rattle.calendar_rules.specs.Times.{timeSays, timeIn, timeRules, timeOf, TimeWord}
+use Rattle.refusal_rules.proofs.Answers.{settled, value_exactly, exactly_one, exactly_none}
+use Rattle.calendar_rules.specs.Times.{time_says, time_in, time_rules, time_of, TimeWord}
 use Rattle.calendar_rules.specs.declared.TimeOfDay.{TimeOfDay}
 use Rattle.calendar_rules.specs.declared.TimeAnswer.{TimeAnswer}
 use Rattle.calendar_rules.specs.declared.TimeAnswer.TheVariants.{At, Refused}
@@ -21,29 +21,29 @@ back : Answer TimeOfDay → TimeAnswer
 back (gives t) = At t
 back (refuses n p) = Refused (record { number = n; place = p })
 
-pub time-settled : (x y : TimeAnswer) → timeSays x ≡ timeSays y → x ≡ y
+pub time_settled : (x y : TimeAnswer) → time_says x ≡ time_says y → x ≡ y
 unfolding back
-time-settled = settled timeSays back (λ x. step x)
+time_settled = settled time_says back (λ x. step x)
   where
-    step : (x : TimeAnswer) → back (timeSays x) ≡ x
+    step : (x : TimeAnswer) → back (time_says x) ≡ x
     step (At t) = refl
     step (Refused r) = refl
 
 -- the rules hold exactly where the word is the hhmmss of the time of day that it holds
-hold-word : (z : ℤ) → Hold (timeRules z) → TimeWord z (timeIn z)
-unfolding timeRules
-hold-word (pos n) h =
+hold_word : (z : ℤ) → Hold (time_rules z) → TimeWord z (time_in z)
+unfolding time_rules
+hold_word (pos n) h =
     record {
       hours = leb-true (n / 10000) 23 h.1.0;
       minutes = leb-true (n / 100 % 100) 59 h.1.1.0;
       seconds = leb-true (n % 100) 59 h.1.1.1.0;
       hhmmss = ap pos (omega arith);
     }
-hold-word (negsuc n) h = absurd (false≢true h.0)
+hold_word (negsuc n) h = absurd (false≢true h.0)
 
-word-hold : (z : ℤ) (t : TimeOfDay) → TimeWord z t → Hold (timeRules z) × (t ≡ timeIn z)
-unfolding timeRules
-word-hold (pos n) t w =
+word_hold : (z : ℤ) (t : TimeOfDay) → TimeWord z t → Hold (time_rules z) × (t ≡ time_in z)
+unfolding time_rules
+word_hold (pos n) t w =
     let e : n ≡ 10000 * t.hours + 100 * t.minutes + t.seconds = cc w.hhmmss in
     let hours : t.hours ≡ n / 10000 = omega (arith, w.minutes, w.seconds) in
     let minutes : t.minutes ≡ n / 100 % 100 = omega (arith, w.minutes, w.seconds) in
@@ -57,22 +57,22 @@ word-hold (pos n) t w =
       ),
       λ i. record { hours = hours i; minutes = minutes i; seconds = seconds i },
     )
-word-hold (negsuc n) t w = absurd (pos-ne-negsuc _ n (sym w.hhmmss))
+word_hold (negsuc n) t w = absurd (pos-ne-negsuc _ n (sym w.hhmmss))
 
 -- the answer is a time of day exactly where the word is that time's hhmmss
-pub time-exactly : (z : ℤ) (t : TimeOfDay) → (timeOf z ≡ gives t) ↔ TimeWord z t
-unfolding timeOf
-time-exactly z t =
-    let x = value-exactly (timeRules z) (timeIn z) t in
-    (λ e. rw (x.0 e).1 (hold-word z (x.0 e).0), λ w. x.1 (word-hold z t w))
+pub time_exactly : (z : ℤ) (t : TimeOfDay) → (time_of z ≡ gives t) ↔ TimeWord z t
+unfolding time_of
+time_exactly z t =
+    let x = value_exactly (time_rules z) (time_in z) t in
+    (λ e. rw (x.0 e).1 (hold_word z (x.0 e).0), λ w. x.1 (word_hold z t w))
 
 -- so there is at most one such time of day
-pub time-only : (z : ℤ) (t u : TimeOfDay) → TimeWord z t → TimeWord z u → t ≡ u
-unfolding timeOf
-time-only = exactly-one TimeWord timeRules timeIn time-exactly
+pub time_only : (z : ℤ) (t u : TimeOfDay) → TimeWord z t → TimeWord z u → t ≡ u
+unfolding time_of
+time_only = exactly_one TimeWord time_rules time_in time_exactly
 
 -- and the answer is refusal 11 at place 0 exactly where there is none
-pub time-refused : (z : ℤ) → (timeOf z ≡ refuses 11 0) ↔ ((t : TimeOfDay) → ¬ TimeWord z t)
-unfolding timeOf timeRules
-time-refused =
-    exactly-none TimeWord timeRules timeIn time-exactly (record { number = 11; place = 0 }) (λ z. (refl, (refl, (refl, (refl, tt)))))
+pub time_refused : (z : ℤ) → (time_of z ≡ refuses 11 0) ↔ ((t : TimeOfDay) → ¬ TimeWord z t)
+unfolding time_of time_rules
+time_refused =
+    exactly_none TimeWord time_rules time_in time_exactly (record { number = 11; place = 0 }) (λ z. (refl, (refl, (refl, (refl, tt)))))

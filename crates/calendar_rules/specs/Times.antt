@@ -2,33 +2,33 @@
 -- Assumes nothing.
 use Rattle.std.specs.Prelude.{◌≡◌, List, [], ◌∷◌, ◌+◌, ◌*◌, ◌/◌, ◌%◌, ◌≤◌, leb, ℤ, pos, nat_abs}
 use Rattle.std.specs.Int.Signed.{le_z}
-use Rattle.refusal_rules.specs.Rules.{Rule, rule, firstFault}
+use Rattle.refusal_rules.specs.Rules.{Rule, rule, first_fault}
 use Rattle.refusal_rules.specs.Answers.{Answer, gives, refuses, answered}
 use Rattle.calendar_rules.specs.declared.TimeOfDay.{TimeOfDay}
 use Rattle.calendar_rules.specs.declared.TimeAnswer.{TimeAnswer}
 use Rattle.calendar_rules.specs.declared.TimeAnswer.TheVariants.{At, Refused}
 
 -- what each case of a time call's answer says
-abbrev pub timeSays : TimeAnswer → Answer TimeOfDay
-timeSays (At t) = gives t
-timeSays (Refused r) = refuses r.number r.place
+abbrev pub time_says : TimeAnswer → Answer TimeOfDay
+time_says (At t) = gives t
+time_says (Refused r) = refuses r.number r.place
 
 -- the hours, minutes and seconds that a time word holds
-abbrev pub timeIn : ℤ → TimeOfDay
-timeIn word = record { hours = nat_abs word / 10000; minutes = nat_abs word / 100 % 100; seconds = nat_abs word % 100 }
+abbrev pub time_in : ℤ → TimeOfDay
+time_in word = record { hours = nat_abs word / 10000; minutes = nat_abs word / 100 % 100; seconds = nat_abs word % 100 }
 
 -- the rules of a time word: refusal 11, place 0
-unfoldable pub timeRules : ℤ → List Rule
-timeRules word =
+unfoldable pub time_rules : ℤ → List Rule
+time_rules word =
     rule (le_z (pos 0) word) 11 0
-    ∷ rule (leb (timeIn word).hours 23) 11 0
-    ∷ rule (leb (timeIn word).minutes 59) 11 0
-    ∷ rule (leb (timeIn word).seconds 59) 11 0
+    ∷ rule (leb (time_in word).hours 23) 11 0
+    ∷ rule (leb (time_in word).minutes 59) 11 0
+    ∷ rule (leb (time_in word).seconds 59) 11 0
     ∷ []
 
 -- the answer of the time call: the time of day, or the refusal of the first rule that fails
-unfoldable pub timeOf : ℤ → Answer TimeOfDay
-timeOf word = answered (firstFault (timeRules word)) (timeIn word)
+unfoldable pub time_of : ℤ → Answer TimeOfDay
+time_of word = answered (first_fault (time_rules word)) (time_in word)
 
 -- a word is the hhmmss of a time of day
 pub record TimeWord (word : ℤ) (t : TimeOfDay) : Type 0 where

@@ -2,7 +2,7 @@
 ghost use Rattle.std.specs.Prelude.{◌≡◌};
 ghost use Rattle.std.specs.Int.{w32};
 ghost use Rattle.std.proofs.Common.{to_z, of_z};
-ghost use Rattle.endian_rules.specs.Words.{at_least, orderNumber};
+ghost use Rattle.endian_rules.specs.Words.{at_least, order_number};
 
 use endian_rules::Order;
 
@@ -37,7 +37,7 @@ pub fn at_least(low: usize, n: u32) -> bool
 
 // A number for each byte order, by which two orders are compared.
 pub fn order_number(order: Order) -> u32
-    ensures { result ≡ orderNumber order }
+    ensures { result ≡ order_number order }
 {
     match order {
         Order::Big => 0,

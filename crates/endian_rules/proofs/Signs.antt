@@ -21,12 +21,12 @@ use mir.Val.{Fits, SFits, to_z, of_z}
 use mir.Facts.{sfits_to_z, Fits-of_z, to_z_pos, to_z-of_z, of_z-to_z}
 use borrow.Author.Tests.{leb-true, ltb-true, ltb-false, lt-ltb, le-ltb, le-leb}
 use Rattle.lists.specs.Lists.{Apart}
-use Rattle.lists.proofs.Choices.{both_true, true-both}
+use Rattle.lists.proofs.Choices.{both_true, true_both}
 use Rattle.endian_rules.specs.Numbers.{decode, encode, number_at, Bytes}
-use Rattle.endian_rules.specs.Words.{signedAt, encodeSigned, at_least, AtLeast}
+use Rattle.endian_rules.specs.Words.{signed_at, encode_signed, at_least, AtLeast}
 use Rattle.endian_rules.specs.declared.Order.{Order}
-use Rattle.endian_rules.proofs.Numbers.{decode-encode, encode-decode, decode-bound}
-use Rattle.endian_rules.proofs.Places.{number_bound, read_back, number-frame}
+use Rattle.endian_rules.proofs.Numbers.{decode-encode, encode-decode, decode_bound}
+use Rattle.endian_rules.proofs.Places.{number_bound, read_back_lem, number_frame}
 
 -- ---- the two readings of 32 bits
 
@@ -38,8 +38,8 @@ signed_low n h = to_z_pos w32 {n = n} h
 pub signed_high : (n : ℕ) → 2 ^ 31 ≤ n → to_z w32 n ≡ negsuc (4294967295 - n)
 signed_high n h = rw (le-ltb n (2 ^ 31) h) (ap negsuc (omega arith))
 
-word-cases : (P : ℤ → Type 0) (n : ℕ) → (n < 2 ^ 31 → P (pos n)) → (2 ^ 31 ≤ n → P (negsuc (4294967295 - n))) → P (to_z w32 n)
-word-cases P n low high = step (ltb n (2 ^ 31)) refl
+word_cases : (P : ℤ → Type 0) (n : ℕ) → (n < 2 ^ 31 → P (pos n)) → (2 ^ 31 ≤ n → P (negsuc (4294967295 - n))) → P (to_z w32 n)
+word_cases P n low high = step (ltb n (2 ^ 31)) refl
   where
     step : (b : Bool) → ltb n (2 ^ 31) ≡ b → P (to_z w32 n)
     step true e = rw (signed_low n (ltb-true n (2 ^ 31) e)) (low (ltb-true n (2 ^ 31) e))
@@ -48,77 +48,77 @@ word-cases P n low high = step (ltb n (2 ^ 31)) refl
 -- ---- rules on raw numbers, and what they mean of the signed word
 
 -- no number that is not negative is at most a negative one
-not-below : (a k : ℕ) → pos a ≤ℤ negsuc k → ⊥
-not-below a k h = h.le
+not_below : (a k : ℕ) → pos a ≤ℤ negsuc k → ⊥
+not_below a k h = h.le
 
 -- at least `low`
 pub signed_at_least : (low n : ℕ) → (pos low ≤ℤ to_z w32 n) ↔ ((low ≤ n) × (n < 2 ^ 31))
 signed_at_least low n =
-    word-cases (λ z. (pos low ≤ℤ z) ↔ ((low ≤ n) × (n < 2 ^ 31))) n
+    word_cases (λ z. (pos low ≤ℤ z) ↔ ((low ≤ n) × (n < 2 ^ 31))) n
     (λ small. (λ h. (leb→le low n h.le, small), λ h. record { le = le→leb low n h.0 }))
-    (λ large. (λ h. absurd (not-below low (4294967295 - n) h), λ h. let z : ⊥ = omega arith in absurd z))
+    (λ large. (λ h. absurd (not_below low (4294967295 - n) h), λ h. let z : ⊥ = omega arith in absurd z))
 
 -- by its test
-pub at-least : (low n : ℕ) → (at_least low n ≡ true) ↔ AtLeast low n
+pub at_least_lem : (low n : ℕ) → (at_least low n ≡ true) ↔ AtLeast low n
 unfolding at_least
-at-least low n = (
+at_least_lem low n = (
   λ e.
       let t : (leb low n ≡ true) × (ltb n 2147483648 ≡ true) = both_true (leb low n) (ltb n 2147483648) e in
       (signed_at_least low n).1 (leb-true low n t.0, ltb-true n 2147483648 t.1),
   λ h.
       let x : (low ≤ n) × (n < 2 ^ 31) = (signed_at_least low n).0 h in
-      true-both (leb low n) (ltb n 2147483648) (le-leb low n x.0) (lt-ltb n 2147483648 x.1),
+      true_both (leb low n) (ltb n 2147483648) (le-leb low n x.0) (lt-ltb n 2147483648 x.1),
 )
 
 -- from `low` to `high`
 pub signed-within : (low high n : ℕ) → high < 2 ^ 31 → ((pos low ≤ℤ to_z w32 n) × (to_z w32 n ≤ℤ pos high)) ↔ ((low ≤ n) × (n ≤ high))
 signed-within low high n most =
-    word-cases (λ z. ((pos low ≤ℤ z) × (z ≤ℤ pos high)) ↔ ((low ≤ n) × (n ≤ high))) n
+    word_cases (λ z. ((pos low ≤ℤ z) × (z ≤ℤ pos high)) ↔ ((low ≤ n) × (n ≤ high))) n
     (λ small. (λ h. (leb→le low n h.0.le, leb→le n high h.1.le), λ h. (record { le = le→leb low n h.0 }, record { le = le→leb n high h.1 })))
-    (λ large. (λ h. absurd (not-below low (4294967295 - n) h.0), λ h. let z : ⊥ = omega arith in absurd z))
+    (λ large. (λ h. absurd (not_below low (4294967295 - n) h.0), λ h. let z : ⊥ = omega arith in absurd z))
 
 -- equal to a number that is not negative
 pub signed_equal : (m n : ℕ) → m < 2 ^ 31 → (to_z w32 n ≡ pos m) ↔ (n ≡ m)
 signed_equal m n most =
-    word-cases (λ z. (z ≡ pos m) ↔ (n ≡ m)) n
+    word_cases (λ z. (z ≡ pos m) ↔ (n ≡ m)) n
     (λ small. (λ e. cc, λ e. ap pos e))
     (λ large. (λ e. cc, λ e. let z : ⊥ = omega arith in absurd z))
 
 -- equal to -1
-pub signed-minus-one : (n : ℕ) → n < 2 ^ 32 → (to_z w32 n ≡ negsuc 0) ↔ (n ≡ 4294967295)
-signed-minus-one n most =
-    word-cases (λ z. (z ≡ negsuc 0) ↔ (n ≡ 4294967295)) n
+pub signed_minus_one : (n : ℕ) → n < 2 ^ 32 → (to_z w32 n ≡ negsuc 0) ↔ (n ≡ 4294967295)
+signed_minus_one n most =
+    word_cases (λ z. (z ≡ negsuc 0) ↔ (n ≡ 4294967295)) n
     (λ small. (λ e. cc, λ e. let z : ⊥ = omega arith in absurd z))
     (λ large. (λ e. let k : 4294967295 - n ≡ 0 = cc in omega arith, λ e. ap negsuc (omega arith)))
 
 -- ---- words that are written and read
 
 -- where two numbers of four bytes are equal, so are the words: this carries every law of a number that is read to the word
-pub signed_same : (o p : Order) (f g : List ℕ) (at b : ℕ) → number_at o 4 f at ≡ number_at p 4 g b → signedAt o f at ≡ signedAt p g b
-signed_same o p f g at b e = ap (to_z w32) e
+pub signed-same : (o p : Order) (f g : List ℕ) (at b : ℕ) → number_at o 4 f at ≡ number_at p 4 g b → signed_at o f at ≡ signed_at p g b
+signed-same o p f g at b e = ap (to_z w32) e
 
 -- a word that is read is one of 32 bits
-pub signed-fits : (o : Order) (f : List ℕ) (at : ℕ) → Bytes f → SFits w32 (signedAt o f at)
+pub signed-fits : (o : Order) (f : List ℕ) (at : ℕ) → Bytes f → SFits w32 (signed_at o f at)
 signed-fits o f at h = sfits_to_z (record { fits = number_bound o 4 f at h })
 
 -- the bytes of a word stand for it, and no others do
-pub signed-decode : (o : Order) (v : ℤ) → SFits w32 v → to_z w32 (decode o (encodeSigned o v)) ≡ v
+pub signed-decode : (o : Order) (v : ℤ) → SFits w32 v → to_z w32 (decode o (encode_signed o v)) ≡ v
 signed-decode o v s = ap (to_z w32) (decode-encode o 4 (of_z w32 v) (Fits-of_z s).fits) ∙ to_z-of_z s
 
-pub signed-encode : (o : Order) (bytes : List ℕ) → Bytes bytes → length bytes ≡ 4 → encodeSigned o (to_z w32 (decode o bytes)) ≡ bytes
+pub signed-encode : (o : Order) (bytes : List ℕ) → Bytes bytes → length bytes ≡ 4 → encode_signed o (to_z w32 (decode o bytes)) ≡ bytes
 signed-encode o bytes h e =
-    let fits : decode o bytes < 256 ^ 4 = rw e at (decode-bound o bytes h) in
+    let fits : decode o bytes < 256 ^ 4 = rw e at (decode_bound o bytes h) in
     ap₂ (encode o) (sym e) (of_z-to_z {w = w32} (record { fits = fits })) ∙ encode-decode o bytes h
 
 -- a word that is written is read back
-pub signed_back : (o : Order) (f : List ℕ) (at : ℕ) (v : ℤ) → at + 4 ≤ length f → SFits w32 v
-    → signedAt o (sets f at (encodeSigned o v)) at ≡ v
-signed_back o f at v h s = ap (to_z w32) (read_back o 4 f at (of_z w32 v) h (Fits-of_z s).fits) ∙ to_z-of_z s
+pub signed-back : (o : Order) (f : List ℕ) (at : ℕ) (v : ℤ) → at + 4 ≤ length f → SFits w32 v
+    → signed_at o (sets f at (encode_signed o v)) at ≡ v
+signed-back o f at v h s = ap (to_z w32) (read_back_lem o 4 f at (of_z w32 v) h (Fits-of_z s).fits) ∙ to_z-of_z s
 
 -- a word elsewhere is as it was
-pub signed-frame : (o p : Order) (w : ℕ) (f : List ℕ) (at n b : ℕ) → Apart b 4 at w
-    → signedAt p (sets f at (encode o w n)) b ≡ signedAt p f b
-signed-frame o p w f at n b h = signed_same p p (sets f at (encode o w n)) f b b (number-frame o p w 4 f at n b h)
+pub signed_frame : (o p : Order) (w : ℕ) (f : List ℕ) (at n b : ℕ) → Apart b 4 at w
+    → signed_at p (sets f at (encode o w n)) b ≡ signed_at p f b
+signed_frame o p w f at n b h = signed-same p p (sets f at (encode o w n)) f b b (number_frame o p w 4 f at n b h)
 
 -- a signed local is kept as its bits, and what is read of them is the number
 pub same_word : (z : ℤ) → mag z < 2 ^ 31 → to_z w32 (of_z w32 z) ≡ z
@@ -131,12 +131,12 @@ minus_pos : (k : ℕ) → negsuc 0 -ℤ pos k ≡ negsuc k
 minus_pos zero = refl
 minus_pos (suc k) = ap (λ (x : ℕ). negsuc (suc x)) (zero-add k)
 
-minus-neg : (k : ℕ) → negsuc 0 -ℤ negsuc k ≡ pos k
-minus-neg k = rw (le-ltb (suc k) 1 (omega arith)) (ap pos (omega arith))
+minus_neg : (k : ℕ) → negsuc 0 -ℤ negsuc k ≡ pos k
+minus_neg k = rw (le-ltb (suc k) 1 (omega arith)) (ap pos (omega arith))
 
 -- -1 less a number below 2 ^ 31 is a word
-pub complement-fits : (n : ℕ) → n < 2 ^ 31 → SFits w32 (negsuc 0 -ℤ to_z w32 n)
-complement-fits n l = subst (SFits w32) (sym (ap (λ (z : ℤ). negsuc 0 -ℤ z) (to_z_pos w32 l) ∙ minus_pos n)) (record { sfits = l })
+pub complement_fits : (n : ℕ) → n < 2 ^ 31 → SFits w32 (negsuc 0 -ℤ to_z w32 n)
+complement_fits n l = subst (SFits w32) (sym (ap (λ (z : ℤ). negsuc 0 -ℤ z) (to_z_pos w32 l) ∙ minus_pos n)) (record { sfits = l })
 
 -- the word of 2 ^ 31 or more
 pub complement : (n : ℕ) → 2 ^ 31 ≤ n → n < 2 ^ 32 → negsuc 0 -ℤ to_z w32 (4294967295 - n) ≡ to_z w32 n
@@ -171,4 +171,4 @@ negative z s e = step z s (subst (λ (y : ℤ). le_z (pos 0) y ≡ false) (to_z-
   where
     step : (y : ℤ) → SFits w32 y → le_z (pos 0) y ≡ false → Negative y
     step (pos n) s e = absurd (false≢true (sym e ∙ le-leb 0 n zero-le))
-    step (negsuc n) s e = record { number = refl; complemented = minus-neg n; small = s.sfits; bits = omega (arith, s.sfits) }
+    step (negsuc n) s e = record { number = refl; complemented = minus_neg n; small = s.sfits; bits = omega (arith, s.sfits) }

@@ -6,32 +6,32 @@ use Prim.Native.Nat.{ℕ}
 use lib.IntN.{negsuc}
 use lib.Seq.{sets}
 use Rattle.endian_rules.specs.Numbers.{value, digits, decode, encode, number_at}
-use Rattle.endian_rules.specs.Words.{signedAt, encodeSigned}
+use Rattle.endian_rules.specs.Words.{signed_at, encode_signed}
 use Rattle.endian_rules.specs.declared.Order.TheVariants.{Big, Little}
 
 abbrev bytes : List ℕ
 bytes = 0 ∷ 1 ∷ 2 ∷ 3 ∷ 4 ∷ 255 ∷ 255 ∷ 255 ∷ 254 ∷ []
 
-big-word : number_at Big 4 bytes 1 ≡ 0x01020304
+big_word : number_at Big 4 bytes 1 ≡ 0x01020304
 unfolding number_at decode value
-big-word = refl
+big_word = refl
 
-little-word : number_at Little 4 bytes 1 ≡ 0x04030201
+little_word : number_at Little 4 bytes 1 ≡ 0x04030201
 unfolding number_at decode value
-little-word = refl
+little_word = refl
 
-big-half : number_at Big 2 bytes 3 ≡ 0x0304
+big_half : number_at Big 2 bytes 3 ≡ 0x0304
 unfolding number_at decode value
-big-half = refl
+big_half = refl
 
-minus-two : signedAt Big bytes 5 ≡ negsuc 1
+minus_two : signed_at Big bytes 5 ≡ negsuc 1
 unfolding number_at decode value
-minus-two = refl
+minus_two = refl
 
 written : sets bytes 0 (encode Little 2 0x0a0b) ≡ 0x0b ∷ 0x0a ∷ 2 ∷ 3 ∷ 4 ∷ 255 ∷ 255 ∷ 255 ∷ 254 ∷ []
 unfolding encode digits
 written = refl
 
-written-signed : sets bytes 1 (encodeSigned Big (negsuc 0)) ≡ 0 ∷ 255 ∷ 255 ∷ 255 ∷ 255 ∷ 255 ∷ 255 ∷ 255 ∷ 254 ∷ []
+written_signed : sets bytes 1 (encode_signed Big (negsuc 0)) ≡ 0 ∷ 255 ∷ 255 ∷ 255 ∷ 255 ∷ 255 ∷ 255 ∷ 255 ∷ 254 ∷ []
 unfolding encode digits
-written-signed = refl
+written_signed = refl

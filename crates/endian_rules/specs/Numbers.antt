@@ -34,17 +34,17 @@ unfoldable pub encode : Order → ℕ → ℕ → List ℕ
 encode o w n = ordered o (digits w n)
 
 -- the digits of the number of w bytes at byte `at` of a file
-abbrev pub digitsAt : Order → ℕ → List ℕ → ℕ → List ℕ
-digitsAt o w f at = ordered o (part at w f)
+abbrev pub digits_at : Order → ℕ → List ℕ → ℕ → List ℕ
+digits_at o w f at = ordered o (part at w f)
 
 -- the number of w bytes at byte `at` of a file
 unfoldable pub number_at : Order → ℕ → List ℕ → ℕ → ℕ
 number_at o w f at = decode o (part at w f)
 
 -- the number of w + 1 bytes of which the first w stand for n and the last is b
-abbrev pub withByte : Order → ℕ → ℕ → ℕ → ℕ
-withByte Big w n b = n * 256 + b
-withByte Little w n b = n + b * 256 ^ w
+abbrev pub with_byte : Order → ℕ → ℕ → ℕ → ℕ
+with_byte Big w n b = n * 256 + b
+with_byte Little w n b = n + b * 256 ^ w
 
 -- every element is a byte, as a lent slice of bytes has it
 abbrev pub Bytes : List ℕ → Type 0

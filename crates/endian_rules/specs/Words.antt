@@ -11,12 +11,12 @@ use Rattle.endian_rules.specs.declared.Order.{Order}
 use Rattle.endian_rules.specs.declared.Order.TheVariants.{Big, Little}
 
 -- the signed word at byte `at` of a file
-abbrev pub signedAt : Order → List ℕ → ℕ → ℤ
-signedAt o f at = to_z w32 (number_at o 4 f at)
+abbrev pub signed_at : Order → List ℕ → ℕ → ℤ
+signed_at o f at = to_z w32 (number_at o 4 f at)
 
 -- the four bytes of a signed word
-abbrev pub encodeSigned : Order → ℤ → List ℕ
-encodeSigned o v = encode o 4 (of_z w32 v)
+abbrev pub encode_signed : Order → ℤ → List ℕ
+encode_signed o v = encode o 4 (of_z w32 v)
 
 -- the raw word k of a file, counted from 0
 unfoldable pub word_at : Order → List ℕ → ℕ → ℕ
@@ -31,6 +31,6 @@ abbrev pub AtLeast : ℕ → ℕ → Type 0
 AtLeast low n = pos low ≤ℤ to_z w32 n
 
 -- a number for each byte order, by which two orders are compared
-abbrev pub orderNumber : Order → ℕ
-orderNumber Big = 0
-orderNumber Little = 1
+abbrev pub order_number : Order → ℕ
+order_number Big = 0
+order_number Little = 1

@@ -6,7 +6,7 @@ ghost use Rattle.std.specs.Prelude.{◌≡◌, ◌+◌, ◌<◌, ◌^◌, ◌≤
 ghost use Rattle.std.proofs.lemmas.List.Edits.{sets};
 ghost use Rattle.endian_rules.specs.Numbers.{ordered, position, number_at, encode};
 ghost use Rattle.endian_rules.specs.declared.Order.TheVariants.{Big, Little};
-ghost use Rattle.endian_rules.specs.Words.{signedAt, encodeSigned, word_at};
+ghost use Rattle.endian_rules.specs.Words.{signed_at, encode_signed, word_at};
 
 use endian::{signed, unsigned};
 use endian_rules::Order;
@@ -55,7 +55,7 @@ fn byte_from_start(bytes: &[u8], k: usize) -> u32
 // The signed word at the byte `at`. The caller must make sure that its four bytes are inside the file.
 pub fn read_signed(order: Order, file: &[u8], at: usize) -> i32
     requires { at + 4 ≤ length file.now }
-    ensures { result ≡ signedAt order file.now at }
+    ensures { result ≡ signed_at order file.now at }
 {
     let sum = read_number(order, 4, file, at);
     // The sign is settled last: from 2147483648 on the word is negative, 4294967296 less than the sum.
@@ -100,7 +100,7 @@ pub fn write_number(order: Order, width: usize, file: &mut [u8], at: usize, n: u
 // Writes the signed word v at the byte `at`. The caller must make sure that its four bytes are inside the file. No other byte changes.
 pub fn write_signed(order: Order, file: &mut [u8], at: usize, v: i32)
     requires { at + 4 ≤ length file.old }
-    ensures { file.new ≡ sets file.old at (encodeSigned order v) }
+    ensures { file.new ≡ sets file.old at (encode_signed order v) }
 {
     write_number(order, 4, file, at, unsigned(v));
 }

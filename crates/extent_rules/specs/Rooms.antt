@@ -4,7 +4,7 @@
 use Rattle.std.specs.Prelude.{Bool, List, ℕ, zero, suc, ◌+◌, ◌-◌, leb, ltb, get_or}
 use Rattle.lists.specs.Choices.{pick, both}
 use Rattle.lists.specs.Lowest.{lowest}
-use Rattle.extent_rules.specs.Stretches.{noWords, first_word, noGridHas}
+use Rattle.extent_rules.specs.Stretches.{no_words, first_word, no_grid_has}
 use Rattle.extent_rules.specs.declared.Extent.{Extent}
 
 -- the greatest word at which a grid may end: the next free word is a signed word
@@ -12,16 +12,16 @@ abbrev pub last_end : ℕ
 last_end = 2147483647
 
 -- whether so many words at address a lie inside the file and in no grid, and end by 2,147,483,647
-unfoldable pub fitsAt : (ℕ → ℕ) → ℕ → ℕ → ℕ → Bool
-fitsAt w whole need a = both (leb (a + need) whole) (both (leb (a + need) last_end) (noGridHas w a (a + need)))
+unfoldable pub fits_at : (ℕ → ℕ) → ℕ → ℕ → ℕ → Bool
+fits_at w whole need a = both (leb (a + need) whole) (both (leb (a + need) last_end) (no_grid_has w a (a + need)))
 
 -- the lowest address from 12 + n on at which so many words have room; `whole` where there is none
-unfoldable pub lowestAddress : (ℕ → ℕ) → ℕ → ℕ → ℕ
-lowestAddress w whole need = lowest (fitsAt w whole need) (first_word w) (whole - first_word w)
+unfoldable pub lowest_address : (ℕ → ℕ) → ℕ → ℕ → ℕ
+lowest_address w whole need = lowest (fits_at w whole need) (first_word w) (whole - first_word w)
 
 -- whether there is an address at which so many words have room
-abbrev pub hasRoom : (ℕ → ℕ) → ℕ → ℕ → Bool
-hasRoom w whole need = ltb (lowestAddress w whole need) whole
+abbrev pub has_room : (ℕ → ℕ) → ℕ → ℕ → Bool
+has_room w whole need = ltb (lowest_address w whole need) whole
 
 -- ---- first fit
 
@@ -30,14 +30,14 @@ unfoldable pub lesser : ℕ → ℕ → ℕ
 lesser count size = pick (leb count size) count size
 
 -- whether so many words fit into an extent, and end by 2,147,483,647
-abbrev pub fitsIn : ℕ → Extent → Bool
-fitsIn need e = both (leb need e.length) (leb (e.start + need) last_end)
+abbrev pub fits_in : ℕ → Extent → Bool
+fits_in need e = both (leb need e.length) (leb (e.start + need) last_end)
 
 -- one step of a search first fit: what was found so far, if something was, else e if so many words fit into it
-unfoldable pub firstFitting : ℕ → Extent → Extent → Extent
-firstFitting need found e = pick (ltb 0 found.length) found (pick (fitsIn need e) e found)
+unfoldable pub first_fitting : ℕ → Extent → Extent → Extent
+first_fitting need found e = pick (ltb 0 found.length) found (pick (fits_in need e) e found)
 
 -- the first of a table's first i extents into which so many words fit; no words where there is none
 unfoldable pub searched : List Extent → ℕ → ℕ → Extent
-searched t need zero = noWords
-searched t need (suc i) = firstFitting need (searched t need i) (get_or t i noWords)
+searched t need zero = no_words
+searched t need (suc i) = first_fitting need (searched t need i) (get_or t i no_words)

@@ -2,9 +2,9 @@
 // looking at every slot. The callers must make sure that the file is accepted.
 ghost use Rattle.std.specs.Prelude.{◌≡◌, ◌<◌, ◌/◌, ◌≤◌, ◌+◌, length};
 ghost use Rattle.endian_rules.specs.Words.{word_at};
-ghost use Rattle.extent_rules.specs.Stretches.{slotExtent, highestEnd, first_word, lowestFree, extentEnd};
-ghost use Rattle.extent_rules.specs.Steps.{SlotsInside, pastGrid, nextGrid, GridAccepted, directoryExtent, runAfter, survey};
-ghost use Rattle.extent_rules.specs.Rooms.{fitsIn, firstFitting, hasRoom};
+ghost use Rattle.extent_rules.specs.Stretches.{slot_extent, highest_end, first_word, lowest_free, extent_end};
+ghost use Rattle.extent_rules.specs.Steps.{SlotsInside, past_grid, next_grid, GridAccepted, directory_extent, run_after, survey};
+ghost use Rattle.extent_rules.specs.Rooms.{fits_in, first_fitting, has_room};
 
 use endian_rules::Order;
 use endian_steps::read_word;
@@ -15,7 +15,7 @@ use refusal::and;
 // The words of slot k's grid; no words where the slot is empty. The directory must be inside the file, and each grid.
 fn slot_extent(file: &[u8], order: Order, k: usize) -> Extent
     requires { SlotsInside (length file.now) (word_at order file.now) × (k < word_at order file.now 10) }
-    ensures { result ≡ slotExtent (word_at order file.now) k }
+    ensures { result ≡ slot_extent (word_at order file.now) k }
 {
     let word = read_word(order, file, 11 + k);
     if word == EMPTY_SLOT {
@@ -36,7 +36,7 @@ fn slot_extent(file: &[u8], order: Order, k: usize) -> Extent
 // sure that the directory is inside the file, and each grid.
 pub fn highest_end(file: &[u8], order: Order) -> usize
     requires { SlotsInside (length file.now) (word_at order file.now) }
-    ensures { result ≡ highestEnd (word_at order file.now) (first_word (word_at order file.now)) (word_at order file.now 10) }
+    ensures { result ≡ highest_end (word_at order file.now) (first_word (word_at order file.now)) (word_at order file.now 10) }
 {
     let n = read_word(order, file, 10) as usize;
     let mut high = 12 + n;
@@ -55,7 +55,7 @@ pub fn highest_end(file: &[u8], order: Order) -> usize
 // The end of the grid that has word p; p where none has it.
 fn past_grid(file: &[u8], order: Order, p: usize) -> usize
     requires { SlotsInside (length file.now) (word_at order file.now) }
-    ensures { result ≡ pastGrid (word_at order file.now) p (word_at order file.now 10) }
+    ensures { result ≡ past_grid (word_at order file.now) p (word_at order file.now 10) }
 {
     let n = read_word(order, file, 10) as usize;
     let mut past = p;
@@ -74,7 +74,7 @@ fn past_grid(file: &[u8], order: Order, p: usize) -> usize
 // The start of the next grid from word p on; `whole` where there is none.
 fn next_grid(file: &[u8], order: Order, whole: usize, p: usize) -> usize
     requires { SlotsInside (length file.now) (word_at order file.now) }
-    ensures { result ≡ nextGrid (word_at order file.now) whole p (word_at order file.now 10) }
+    ensures { result ≡ next_grid (word_at order file.now) whole p (word_at order file.now 10) }
 {
     let n = read_word(order, file, 10) as usize;
     let mut next = whole;
@@ -93,7 +93,7 @@ fn next_grid(file: &[u8], order: Order, whole: usize, p: usize) -> usize
 // The lowest free word from p on; the number of whole words where there is none.
 fn lowest_free(file: &[u8], order: Order, p: usize) -> usize
     requires { GridAccepted order file.now × (p ≤ length file.now / 4) }
-    ensures { result ≡ lowestFree (word_at order file.now) (length file.now / 4) p }
+    ensures { result ≡ lowest_free (word_at order file.now) (length file.now / 4) p }
 {
     let mut at = p;
     let mut past = past_grid(file, order, at);
@@ -106,7 +106,7 @@ fn lowest_free(file: &[u8], order: Order, p: usize) -> usize
 
 // The words before 12 + n, of a file that has them; no words of a shorter one. With this the free stretches are begun.
 pub fn directory_extent(file: &[u8], order: Order) -> Extent
-    ensures { result ≡ directoryExtent order file.now }
+    ensures { result ≡ directory_extent order file.now }
 {
     if file.len() < 44 {
         return Extent {
@@ -124,7 +124,7 @@ pub fn directory_extent(file: &[u8], order: Order) -> Extent
 // accepted, and that the extent is inside it.
 pub fn run_after(file: &[u8], order: Order, e: Extent) -> Extent
     requires { GridAccepted order file.now × (e.start + e.length ≤ length file.now / 4) }
-    ensures { result ≡ runAfter (word_at order file.now) (length file.now / 4) (extentEnd e) }
+    ensures { result ≡ run_after (word_at order file.now) (length file.now / 4) (extent_end e) }
 {
     let whole = file.len() / 4;
     let start = lowest_free(file, order, e.start + e.length);
@@ -156,7 +156,7 @@ pub fn survey_free(file: &[u8], order: Order) -> Survey
 
 // Whether so many words fit into an extent, and end by 2,147,483,647.
 fn fits_extent(e: Extent, need: usize) -> bool
-    ensures { result ≡ fitsIn need e }
+    ensures { result ≡ fits_in need e }
 {
     if LAST_END < need {
         return false;
@@ -166,7 +166,7 @@ fn fits_extent(e: Extent, need: usize) -> bool
 
 // What was found, if something was, else the extent if so many words fit into it and end by 2,147,483,647.
 pub fn first_fitting(need: usize, found: Extent, e: Extent) -> Extent
-    ensures { result ≡ firstFitting need found e }
+    ensures { result ≡ first_fitting need found e }
 {
     if 0 < found.length {
         return found;
@@ -181,7 +181,7 @@ pub fn first_fitting(need: usize, found: Extent, e: Extent) -> Extent
 // accepted.
 pub fn has_room(file: &[u8], order: Order, need: usize) -> bool
     requires { GridAccepted order file.now × (1 ≤ need) }
-    ensures { result ≡ hasRoom (word_at order file.now) (length file.now / 4) need }
+    ensures { result ≡ has_room (word_at order file.now) (length file.now / 4) need }
 {
     let start = directory_extent(file, order);
     let mut e = run_after(file, order, start);

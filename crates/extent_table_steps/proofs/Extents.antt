@@ -28,24 +28,24 @@ abbrev pub extent-value : Extent → Val
 extent-value e = LL.val X.the_type X'.the_laws e
 
 -- the same, as a list
-abbrev pub extent-values : Extent → List Val
-extent-values = LL.vals X.the_type X'.the_laws
+abbrev pub extent_values : Extent → List Val
+extent_values = LL.vals X.the_type X'.the_laws
 
 -- it can only be that
-abbrev pub extent-tells : Tells X.the_row (Is X.the_row) extent-values
-extent-tells = LL.tells X.the_type X'.the_laws
+abbrev pub extent_tells : Tells X.the_row (Is X.the_row) extent_values
+extent_tells = LL.tells X.the_type X'.the_laws
 
 -- an extent's relation at its machine value, written out
-pub extent-told : (e : Extent) (w : Val) → Is X.the_row e (w ∷ []) → Is X.the_row e (extent-value e ∷ [])
-extent-told e w = at_value X.the_row extent-values extent-tells e (w ∷ [])
+pub extent_told : (e : Extent) (w : Val) → Is X.the_row e (w ∷ []) → Is X.the_row e (extent-value e ∷ [])
+extent_told e w = at_value X.the_row extent_values extent_tells e (w ∷ [])
 
 -- a call has answered u, the machine value of e
 abbrev pub ToldExtent : Extent → Val → Type 0
-ToldExtent = ValueIs X.the_row extent-values
+ToldExtent = ValueIs X.the_row extent_values
 
 -- an order's machine value
-abbrev pub order_value : Order → Val
-order_value o = EL.val O.the_type O'.the_laws o
+abbrev pub order-value : Order → Val
+order-value o = EL.val O.the_type O'.the_laws o
 
 module _ {M : Type 1} {𝓤 : Ura M} (𝓛 : Logic 𝓤) where
   -- an extent's machine value is of its type
@@ -57,15 +57,15 @@ module _ {M : Type 1} {𝓤 : Ura M} (𝓛 : Logic 𝓤) where
   makes = LL.makes X.the_type X'.the_plain 𝓛
 
   -- and what an order owns
-  abbrev pub makes-order : Makes 𝓛 O.the_row (Is O.the_row)
-  makes-order = EL.makes O.the_type O'.the_plain 𝓛
+  abbrev pub makes_order : Makes 𝓛 O.the_row (Is O.the_row)
+  makes_order = EL.makes O.the_type O'.the_plain 𝓛
 
 -- ---- the parameters
 module _ {n : ℕ} where
   -- an order
-  abbrev pub an-order : Value n
-  an-order = enum O.the_type O'.the_laws tt O'.the_plain (λ κs x f. refl)
+  abbrev pub an_order : Value n
+  an_order = enum O.the_type O'.the_laws tt O'.the_plain (λ κs x f. refl)
 
   -- an extent
-  abbrev pub an-extent : Value n
-  an-extent = struct X.the_type X'.the_laws X'.the_plain (λ κs x f. refl)
+  abbrev pub an_extent : Value n
+  an_extent = struct X.the_type X'.the_laws X'.the_plain (λ κs x f. refl)

@@ -2,7 +2,7 @@
 //
 // A table is a lent slice of structs, of which a proof is written out step by step. What is computed is computed by value, in extent_steps.
 ghost use Rattle.std.specs.Prelude.{◌≡◌, ◌≤◌, ◌<◌, length};
-ghost use Rattle.extent_rules.specs.Steps.{GridAccepted, runsOver, searchedOver};
+ghost use Rattle.extent_rules.specs.Steps.{GridAccepted, runs_over, searched_over};
 ghost use Rattle.extent_rules.specs.Rooms.{searched, lesser};
 
 use endian_rules::Order;
@@ -13,7 +13,7 @@ use extent_steps::{directory_extent, first_fitting, run_after};
 // has so many places, and that the file is accepted unless there are none to fill.
 pub fn fill<'t, 'f>(table: &'t mut [Extent], file: &'f [u8], order: Order, count: usize)
     requires { (count ≤ length table.old) × (0 < count → GridAccepted order file.now) }
-    ensures { table.new ≡ runsOver order file.now count table.old }
+    ensures { table.new ≡ runs_over order file.now count table.old }
 {
     let mut e = directory_extent(file, order);
     let mut i: usize = 0;
@@ -61,7 +61,7 @@ pub fn search<'t, 'f>(
     need: usize,
 ) -> Extent
     requires { (count ≤ length table.old) × (0 < count → GridAccepted order file.now) }
-    ensures { (result, table.new) ≡ searchedOver order file.now count need table.old }
+    ensures { (result, table.new) ≡ searched_over order file.now count need table.old }
 {
     fill(table, file, order, count);
     first_fit(table, count, need)

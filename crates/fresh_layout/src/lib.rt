@@ -1,9 +1,9 @@
 // The layout of one kind that a call asks for: what every call with a file and a layout does first.
 ghost use Rattle.std.specs.Prelude.{◌≡◌};
-ghost use Rattle.area_rules.specs.Opening.{areaSays};
-ghost use Rattle.grid_rules.specs.Opening.{gridSays};
-ghost use Rattle.md_rules.specs.Opening.{mdSays};
-ghost use Rattle.layout_rules.specs.Found.{asArea, areaOf, asGrid, gridOf, asMd, mdOf};
+ghost use Rattle.area_rules.specs.Opening.{area_says};
+ghost use Rattle.grid_rules.specs.Opening.{grid_says};
+ghost use Rattle.md_rules.specs.Opening.{md_says};
+ghost use Rattle.layout_rules.specs.Found.{as_area, area_of, as_grid, grid_of, as_md, md_of};
 
 use area_rules::AreaOpening;
 use grid_rules::GridOpening;
@@ -24,7 +24,7 @@ fn refused(number: u32) -> Refusal
 
 // A layout as an AREA layout, or refusal 7.
 fn as_area(layout: Layout) -> AreaOpening
-    ensures { areaSays result ≡ asArea layout }
+    ensures { area_says result ≡ as_area layout }
 {
     match layout {
         Layout::Area(l) => AreaOpening::Opened(l),
@@ -34,8 +34,8 @@ fn as_area(layout: Layout) -> AreaOpening
 }
 
 // The AREA layout that a call asks for. Refused with 9 where the layout is stale, and then with 7 where it is of another kind.
-pub fn area_of(file: &[u8], layout: Layout) -> AreaOpening
-    ensures { areaSays result ≡ areaOf file.now layout }
+pub fn area_of_lem(file: &[u8], layout: Layout) -> AreaOpening
+    ensures { area_says result ≡ area_of file.now layout }
 {
     if is_fresh(file, layout) {
         as_area(layout)
@@ -46,7 +46,7 @@ pub fn area_of(file: &[u8], layout: Layout) -> AreaOpening
 
 // A layout as a GRID layout, or refusal 7.
 fn as_grid(layout: Layout) -> GridOpening
-    ensures { gridSays result ≡ asGrid layout }
+    ensures { grid_says result ≡ as_grid layout }
 {
     match layout {
         Layout::Area(_) => GridOpening::Refused(refused(NO_SUCH)),
@@ -57,7 +57,7 @@ fn as_grid(layout: Layout) -> GridOpening
 
 // The GRID layout that a call asks for. Refused with 9 where the layout is stale, and then with 7 where it is of another kind.
 pub fn grid_of(file: &[u8], layout: Layout) -> GridOpening
-    ensures { gridSays result ≡ gridOf file.now layout }
+    ensures { grid_says result ≡ grid_of file.now layout }
 {
     if is_fresh(file, layout) {
         as_grid(layout)
@@ -68,7 +68,7 @@ pub fn grid_of(file: &[u8], layout: Layout) -> GridOpening
 
 // A layout as an MD layout, or refusal 7.
 fn as_md(layout: Layout) -> MdOpening
-    ensures { mdSays result ≡ asMd layout }
+    ensures { md_says result ≡ as_md layout }
 {
     match layout {
         Layout::Area(_) => MdOpening::Refused(refused(NO_SUCH)),
@@ -79,7 +79,7 @@ fn as_md(layout: Layout) -> MdOpening
 
 // The MD layout that a call asks for. Refused with 9 where the layout is stale, and then with 7 where it is of another kind.
 pub fn md_of(file: &[u8], layout: Layout) -> MdOpening
-    ensures { mdSays result ≡ mdOf file.now layout }
+    ensures { md_says result ≡ md_of file.now layout }
 {
     if is_fresh(file, layout) {
         as_md(layout)

@@ -1,9 +1,9 @@
 // GRID files, gridded fields: opening a grid, each slot's grid compared with all earlier ones, and comparing layouts.
 ghost use Rattle.std.specs.Prelude.{◌≡◌, ◌<◌, length};
 ghost use Rattle.endian_rules.specs.Words.{word_at};
-ghost use Rattle.refusal_rules.specs.Rules.{firstFault};
-ghost use Rattle.grid_rules.specs.Opening.{sameGrid, gridSays, openGrid};
-ghost use Rattle.grid_rules.specs.Rules.{shares, slotsRules, slotRules, gridFileRules};
+ghost use Rattle.refusal_rules.specs.Rules.{first_fault};
+ghost use Rattle.grid_rules.specs.Opening.{same_grid, grid_says, open_grid};
+ghost use Rattle.grid_rules.specs.Rules.{shares, slots_rules, slot_rules, grid_file_rules};
 ghost use Rattle.grid_rules.specs.Accepts.{GridRoom};
 
 use endian::order_number;
@@ -16,7 +16,7 @@ use refusal_rules::{MISPLACED, Verdict};
 
 // Whether two GRID layouts are the same in every field. What has been compared up to a field is named after it.
 pub fn same_grid(a: GridLayout, b: GridLayout) -> bool
-    ensures { result ≡ sameGrid a b }
+    ensures { result ≡ same_grid a b }
 {
     let a_order = a.order;
     let b_order = b.order;
@@ -38,7 +38,7 @@ fn shares_word(
     low: usize,
     high: usize,
 ) -> bool
-    requires { GridRoom (length file.now) n next × ((k < n) × (firstFault (slotsRules (word_at order file.now) n next k) ≡ Verdict.Pass)) }
+    requires { GridRoom (length file.now) n next × ((k < n) × (first_fault (slots_rules (word_at order file.now) n next k) ≡ Verdict.Pass)) }
     ensures { result ≡ shares (word_at order file.now) low high k }
 {
     let mut j = 0;
@@ -53,8 +53,8 @@ fn shares_word(
 
 // What the checks of slot k say. Those of the slots before it must have passed.
 fn slot_verdict(file: &[u8], order: Order, n: usize, next: usize, k: usize) -> Verdict
-    requires { GridRoom (length file.now) n next × ((k < n) × (firstFault (slotsRules (word_at order file.now) n next k) ≡ Verdict.Pass)) }
-    ensures { result ≡ firstFault (slotRules (word_at order file.now) n next k) }
+    requires { GridRoom (length file.now) n next × ((k < n) × (first_fault (slots_rules (word_at order file.now) n next k) ≡ Verdict.Pass)) }
+    ensures { result ≡ first_fault (slot_rules (word_at order file.now) n next k) }
 {
     let word = read_word(order, file, 11 + k);
     if word == EMPTY_SLOT {
@@ -74,7 +74,7 @@ fn slot_verdict(file: &[u8], order: Order, n: usize, next: usize, k: usize) -> V
 // What the checks of all n slots say, slot by slot.
 fn slots_verdict(file: &[u8], order: Order, n: usize, next: usize) -> Verdict
     requires { GridRoom (length file.now) n next }
-    ensures { result ≡ firstFault (slotsRules (word_at order file.now) n next n) }
+    ensures { result ≡ first_fault (slots_rules (word_at order file.now) n next n) }
 {
     let mut k = 0;
     while k < n {
@@ -92,7 +92,7 @@ fn slots_verdict(file: &[u8], order: Order, n: usize, next: usize) -> Verdict
 // What the checks of a whole GRID file say, before a grid of it is asked for: 1 to 5 with document 01's places. The first fault of the lowest
 // slot that has one comes first.
 pub fn file_verdict(file: &[u8], order: Order) -> Verdict
-    ensures { result ≡ firstFault (gridFileRules (length file.now) (word_at order file.now)) }
+    ensures { result ≡ first_fault (grid_file_rules (length file.now) (word_at order file.now)) }
 {
     match head_verdict(file, order) {
         Verdict::Fault(refusal) => Verdict::Fault(refusal),
@@ -107,7 +107,7 @@ pub fn file_verdict(file: &[u8], order: Order) -> Verdict
 // Opens the grid of a number, counted from 1, in a byte order. Refused by the first fault of the whole file, then with 7 where there is no such
 // grid, then with 6 where its slot is empty.
 pub fn open(file: &[u8], order: Order, number: u32) -> GridOpening
-    ensures { gridSays result ≡ openGrid order file.now number }
+    ensures { grid_says result ≡ open_grid order file.now number }
 {
     match file_verdict(file, order) {
         Verdict::Fault(refusal) => GridOpening::Refused(refusal),

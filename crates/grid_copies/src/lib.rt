@@ -1,10 +1,10 @@
 // The header of a grid handed back, and a whole grid copied by columns or by rows into a lent output.
 ghost use Rattle.std.specs.Prelude.{◌≡◌};
-ghost use Rattle.refusal_rules.specs.Answers.{gives, sizeSays};
+ghost use Rattle.refusal_rules.specs.Answers.{gives, size_says};
 ghost use Rattle.copy_rules.specs.Runs.{copied};
 ghost use Rattle.grid_rules.specs.Points.{GridOf};
-ghost use Rattle.span_rules.specs.Spans.{spanSays, lentBytes, thatPart};
-ghost use Rattle.grid_part_rules.specs.Grids.{headerSpan, byColumns, byRows, copyByColumns, copyByRows};
+ghost use Rattle.span_rules.specs.Spans.{span_says, lent_bytes, that_part};
+ghost use Rattle.grid_part_rules.specs.Grids.{header_span, by_columns, by_rows, copy_by_columns, copy_by_rows};
 
 use copy_rules::WordLines;
 use fresh_layout::grid_of;
@@ -17,7 +17,7 @@ use word_copy_steps::copy_lines;
 
 // Where the header of a grid lies: start and length in bytes. Refused with 9 where the layout is stale, then with 7 where it is of another kind.
 pub fn header_span(file: &[u8], layout: Layout) -> SpanAnswer
-    ensures { spanSays result ≡ headerSpan file.now layout }
+    ensures { span_says result ≡ header_span file.now layout }
 {
     match grid_of(file, layout) {
         GridOpening::Refused(refusal) => SpanAnswer::Refused(refusal),
@@ -30,7 +30,7 @@ pub fn header_span(file: &[u8], layout: Layout) -> SpanAnswer
 
 // The header of a grid, handed back as that part of the file; empty where `header_span` refuses.
 pub fn header_bytes(file: &[u8], layout: Layout) -> &[u8]
-    ensures { lentBytes result ≡ thatPart file.entry (headerSpan file.now layout) }
+    ensures { lent_bytes result ≡ that_part file.entry (header_span file.now layout) }
 {
     hand_back(file, header_span(file, layout))
 }
@@ -38,7 +38,7 @@ pub fn header_bytes(file: &[u8], layout: Layout) -> &[u8]
 // Copies a grid of an accepted file by columns: a line is a column, its points one word apart.
 fn copy_columns(file: &[u8], l: GridLayout, out: &mut [i32]) -> SizeAnswer
     requires { GridOf l.order file.now l.number l }
-    ensures { (sizeSays result, out.new) ≡ copied (gives (byColumns file.now l)) out.old }
+    ensures { (size_says result, out.new) ≡ copied (gives (by_columns file.now l)) out.old }
 {
     let order = l.order;
     let lines = WordLines {
@@ -54,7 +54,7 @@ fn copy_columns(file: &[u8], l: GridLayout, out: &mut [i32]) -> SizeAnswer
 // Copies a grid of an accepted file by rows: a line is a row, its points one column apart.
 fn copy_rows(file: &[u8], l: GridLayout, out: &mut [i32]) -> SizeAnswer
     requires { GridOf l.order file.now l.number l }
-    ensures { (sizeSays result, out.new) ≡ copied (gives (byRows file.now l)) out.old }
+    ensures { (size_says result, out.new) ≡ copied (gives (by_rows file.now l)) out.old }
 {
     let order = l.order;
     let lines = WordLines {
@@ -70,7 +70,7 @@ fn copy_rows(file: &[u8], l: GridLayout, out: &mut [i32]) -> SizeAnswer
 // Copies a grid, column by column, into the first places of a lent output of signed words, and answers how many it wrote. Refused with 9 where the layout is
 // stale, then with 7 where it is of another kind, then with 10 where the output is too short. A refused copy writes nothing.
 pub fn copy_by_columns(file: &[u8], layout: Layout, out: &mut [i32]) -> SizeAnswer
-    ensures { (sizeSays result, out.new) ≡ copyByColumns file.now layout out.old }
+    ensures { (size_says result, out.new) ≡ copy_by_columns file.now layout out.old }
 {
     match grid_of(file, layout) {
         GridOpening::Refused(refusal) => SizeAnswer::Refused(refusal),
@@ -80,7 +80,7 @@ pub fn copy_by_columns(file: &[u8], layout: Layout, out: &mut [i32]) -> SizeAnsw
 
 // Copies a grid, row by row, into the first places of a lent output of signed words, and answers how many it wrote. Refused as `copy_by_columns`.
 pub fn copy_by_rows(file: &[u8], layout: Layout, out: &mut [i32]) -> SizeAnswer
-    ensures { (sizeSays result, out.new) ≡ copyByRows file.now layout out.old }
+    ensures { (size_says result, out.new) ≡ copy_by_rows file.now layout out.old }
 {
     match grid_of(file, layout) {
         GridOpening::Refused(refusal) => SizeAnswer::Refused(refusal),

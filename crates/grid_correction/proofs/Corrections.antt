@@ -16,70 +16,70 @@ use Rattle.refusal_rules.specs.declared.Place.{Place}
 use Rattle.store_theory.specs.Plans.{outcome, SucceedsAt}
 use Rattle.store_theory.specs.Stores.{All}
 use Rattle.store_theory.specs.Formats.{system}
-use Rattle.grid_rules.specs.Opening.{openGrid}
+use Rattle.grid_rules.specs.Opening.{open_grid}
 use Rattle.grid_rules.specs.declared.GridLayout.{GridLayout}
-use Rattle.layout_rules.specs.Layouts.{kind_of, layoutOrder}
+use Rattle.layout_rules.specs.Layouts.{kind_of, layout_order}
 use Rattle.layout_rules.specs.declared.Layout.{Layout}
 use Rattle.layout_rules.specs.declared.Layout.TheVariants.{Grid}
 use Rattle.value_rules.specs.declared.ValueName.TheVariants.{Point}
-use Rattle.value_rules.proofs.Places.{Located, point_at, points-named}
-use Rattle.value_rules.specs.Reading.{readPoint}
-use Rattle.value_rules.proofs.Reading.{point-located}
-use Rattle.store_rules.specs.Stores.{Store, Done, signed, point, plan_of, storesIn, storePoint, storeFormat}
-use Rattle.store_rules.proofs.Stores.{order-does-not-matter}
-use Rattle.store_rules.proofs.Single.{reads-back, done_at, word-done}
-use Rattle.grid_correction.specs.Corrections.{correctedBy, correctPoint, store_of, twoSay, correctTwo}
-use Rattle.store_rules.proofs.Answers.{store-settled}
+use Rattle.value_rules.proofs.Places.{Located, point_at_lem, points_named}
+use Rattle.value_rules.specs.Reading.{read_point}
+use Rattle.value_rules.proofs.Reading.{point_located}
+use Rattle.store_rules.specs.Stores.{Store, Done, signed, point, plan_of, stores_in, store_point, store_format}
+use Rattle.store_rules.proofs.Stores.{order_does_not_matter}
+use Rattle.store_rules.proofs.Single.{reads_back, done_at, word_done}
+use Rattle.grid_correction.specs.Corrections.{corrected_by, correct_point, store_of, two_say, correct_two}
+use Rattle.store_rules.proofs.Answers.{store_settled}
 use Rattle.grid_correction.specs.declared.Correction.{Correction}
 use Rattle.grid_correction.specs.declared.TwoAnswers.{TwoAnswers}
 
 -- what two answers say settles them
-pub two-settled : (x y : TwoAnswers) → twoSay x ≡ twoSay y → x ≡ y
-two-settled x y e =
+pub two_settled : (x y : TwoAnswers) → two_say x ≡ two_say y → x ≡ y
+two_settled x y e =
     λ i.
     record {
-      first = store-settled x.first y.first (ap (λ (l : List Done). get_or l 0 (gives tt)) e) i;
-      second = store-settled x.second y.second (ap (λ (l : List Done). get_or l 1 (gives tt)) e) i;
+      first = store_settled x.first y.first (ap (λ (l : List Done). get_or l 0 (gives tt)) e) i;
+      second = store_settled x.second y.second (ap (λ (l : List Done). get_or l 1 (gives tt)) e) i;
     }
 
 -- a store of a point that can be read succeeds, and the point then reads the value
-stored-reads : (f : List ℕ) (l : Layout) (r c : ℕ) (v old : ℤ) → SFits w32 v → readPoint f l r c ≡ gives old
-    → readPoint (storePoint f l r c v).1 l r c ≡ gives v
-stored-reads f l r c v old typed e =
-    let done = (word-done f l (point r c v) tt typed).1 (point-located f l r c old e) in
-    (mapped-gives signed (λ x y same. cc) (readPoint (storePoint f l r c v).1 l r c) v).0 (reads-back f l (point r c v) typed done)
+stored_reads : (f : List ℕ) (l : Layout) (r c : ℕ) (v old : ℤ) → SFits w32 v → read_point f l r c ≡ gives old
+    → read_point (store_point f l r c v).1 l r c ≡ gives v
+stored_reads f l r c v old typed e =
+    let done = (word_done f l (point r c v) tt typed).1 (point_located f l r c old e) in
+    (mapped-gives signed (λ x y same. cc) (read_point (store_point f l r c v).1 l r c) v).0 (reads_back f l (point r c v) typed done)
 
 -- A point whose correction is answered its old value reads the new one, by the layout with which the file was opened.
-pub corrected-reads : (f : List ℕ) (o : Order) (g r c : ℕ) (v old : ℤ) (l : GridLayout) → SFits w32 v → openGrid o f g ≡ gives l
-    → (correctPoint f o g r c v).0 ≡ gives old → readPoint (correctPoint f o g r c v).1 (Grid l) r c ≡ gives v
-corrected-reads f o g r c v old l typed opens e =
-    let by : correctPoint f o g r c v ≡ correctedBy f (gives (Grid l)) r c v = ap (λ x. correctedBy f (mapped Grid x) r c v) opens in
-    ap (λ x. readPoint x.1 (Grid l) r c) by ∙ stored-reads f (Grid l) r c v old typed (ap (λ x. x.0) (sym by) ∙ e)
+pub corrected_reads : (f : List ℕ) (o : Order) (g r c : ℕ) (v old : ℤ) (l : GridLayout) → SFits w32 v → open_grid o f g ≡ gives l
+    → (correct_point f o g r c v).0 ≡ gives old → read_point (correct_point f o g r c v).1 (Grid l) r c ≡ gives v
+corrected_reads f o g r c v old l typed opens e =
+    let by : correct_point f o g r c v ≡ corrected_by f (gives (Grid l)) r c v = ap (λ x. corrected_by f (mapped Grid x) r c v) opens in
+    ap (λ x. read_point x.1 (Grid l) r c) by ∙ stored_reads f (Grid l) r c v old typed (ap (λ x. x.0) (sym by) ∙ e)
 
 -- two points at one address are one point
-one-point : (f : List ℕ) (l : Layout) (x y : Correction) (a : ℕ) → SucceedsAt a (plan_of f (store_of l x)) → SucceedsAt a (plan_of f (store_of l y))
+one_point : (f : List ℕ) (l : Layout) (x y : Correction) (a : ℕ) → SucceedsAt a (plan_of f (store_of l x)) → SucceedsAt a (plan_of f (store_of l y))
     → (x.row ≡ y.row) × (x.column ≡ y.column)
-one-point f l x y a p q =
+one_point f l x y a p q =
     let (u, (fresh, at), here) = done_at f l (point x.row x.column x.value) a p in
     let (w, (fresh', at'), there) = done_at f l (point y.row y.column y.value) a q in
     step l u w at at' (here ∙ sym there)
   where
     step : (m : Layout) (u w : Place) → Located f m (Point x.row x.column) u → Located f m (Point y.row y.column) w → u.address ≡ w.address
         → (x.row ≡ y.row) × (x.column ≡ y.column)
-    step (Grid m) u w (point_at opens is at) at' same = points-named (point_at opens is at) at' same
+    step (Grid m) u w (point_at_lem opens is at) at' same = points_named (point_at_lem opens is at) at' same
 
 -- Two corrections in one order and in the other: they leave the same bytes, and each is answered what it would be answered alone.
 pub record EitherOrder (f : List ℕ) (l : Layout) (x y : Correction) : Type 0 where
-  pub bytes : (correctTwo f l x y).1 ≡ (correctTwo f l y x).1
-  pub answers : (correctTwo f l x y).0 ≡ (storesIn f (store_of l x)).0 ∷ (storesIn f (store_of l y)).0 ∷ []
-  pub answers' : (correctTwo f l y x).0 ≡ (storesIn f (store_of l y)).0 ∷ (storesIn f (store_of l x)).0 ∷ []
+  pub bytes : (correct_two f l x y).1 ≡ (correct_two f l y x).1
+  pub answers : (correct_two f l x y).0 ≡ (stores_in f (store_of l x)).0 ∷ (stores_in f (store_of l y)).0 ∷ []
+  pub answers' : (correct_two f l y x).0 ≡ (stores_in f (store_of l y)).0 ∷ (stores_in f (store_of l x)).0 ∷ []
 
 -- So it is with corrections of different points, by any layout, fresh or stale: promise 3 of a list of two stores.
-pub either_order : (f : List ℕ) (l : Layout) (x y : Correction) → SFits w32 x.value → SFits w32 y.value
+pub either-order : (f : List ℕ) (l : Layout) (x y : Correction) → SFits w32 x.value → SFits w32 y.value
     → ¬ ((x.row ≡ y.row) × (x.column ≡ y.column)) → EitherOrder f l x y
 unfolding outcome
-either_order f l x y typed typed' other =
-    let free = (order-does-not-matter.claim (kind_of l) (layoutOrder l) f two fit (apart, ((λ t m. absurd (Memᴰ.not-nil m)), tt))).free in
+either-order f l x y typed typed' other =
+    let free = (order_does_not_matter.claim (kind_of l) (layout_order l) f two fit (apart, ((λ t m. absurd (Memᴰ.not-nil m)), tt))).free in
     let swapped = Permᴰ.swap refl refl in
     record {
       bytes = free.same two (Permᴰ.refl two) ∙ sym (free.same (store_of l y ∷ store_of l x ∷ []) swapped);
@@ -91,7 +91,7 @@ either_order f l x y typed typed' other =
     two = store_of l x ∷ store_of l y ∷ []
 
     Fit : Store → Type 0
-    Fit s = (system storeFormat (record { kind = kind_of l; order = layoutOrder l })).Fit s
+    Fit s = (system store_format (record { kind = kind_of l; order = layout_order l })).Fit s
 
     fit : All Fit two
     fit s (Memᴰ.head same) = subst Fit (sym same) (refl, typed)
@@ -99,5 +99,5 @@ either_order f l x y typed typed' other =
     fit s (Memᴰ.tail (Memᴰ.tail m)) = absurd (Memᴰ.not-nil m)
 
     apart : All (λ t. (a : ℕ) → SucceedsAt a (plan_of f (store_of l x)) → SucceedsAt a (plan_of f t) → ⊥) (store_of l y ∷ [])
-    apart s (Memᴰ.head same) a p q = other (one-point f l x y a p (subst (λ (t : Store). SucceedsAt a (plan_of f t)) same q))
+    apart s (Memᴰ.head same) a p q = other (one_point f l x y a p (subst (λ (t : Store). SucceedsAt a (plan_of f t)) same q))
     apart s (Memᴰ.tail m) a p q = absurd (Memᴰ.not-nil m)

@@ -4,32 +4,32 @@ use Rattle.std.specs.Prelude.{List, [], ◌∷◌, ℕ, ℤ}
 use Rattle.endian_rules.specs.declared.Order.{Order}
 use Rattle.refusal_rules.specs.Answers.{Answer, gives, refuses, mapped}
 use Rattle.store_theory.specs.Series.{leaves, replies}
-use Rattle.grid_rules.specs.Opening.{openGrid}
+use Rattle.grid_rules.specs.Opening.{open_grid}
 use Rattle.layout_rules.specs.declared.Layout.{Layout}
 use Rattle.layout_rules.specs.declared.Layout.TheVariants.{Grid}
-use Rattle.value_rules.specs.Reading.{readPoint}
-use Rattle.store_rules.specs.Stores.{Store, Done, point, storesIn, storePoint}
-use Rattle.store_rules.specs.Answers.{storeSays}
+use Rattle.value_rules.specs.Reading.{read_point}
+use Rattle.store_rules.specs.Stores.{Store, Done, point, stores_in, store_point}
+use Rattle.store_rules.specs.Answers.{store_says}
 use Rattle.grid_correction.specs.declared.Correction.{Correction}
 use Rattle.grid_correction.specs.declared.TwoAnswers.{TwoAnswers}
 
 -- the value that a point had and the file after its correction, where opening answers a layout; else the refusal and the file as it was
-abbrev pub correctedBy : List ℕ → Answer Layout → ℕ → ℕ → ℤ → Answer ℤ × List ℕ
-correctedBy f (gives l) r c v = (readPoint f l r c, (storePoint f l r c v).1)
-correctedBy f (refuses n p) r c v = (refuses n p, f)
+abbrev pub corrected_by : List ℕ → Answer Layout → ℕ → ℕ → ℤ → Answer ℤ × List ℕ
+corrected_by f (gives l) r c v = (read_point f l r c, (store_point f l r c v).1)
+corrected_by f (refuses n p) r c v = (refuses n p, f)
 
 -- what correcting a point of a grid answers, and the file that it leaves
-abbrev pub correctPoint : List ℕ → Order → ℕ → ℕ → ℕ → ℤ → Answer ℤ × List ℕ
-correctPoint f o g r c v = correctedBy f (mapped Grid (openGrid o f g)) r c v
+abbrev pub correct_point : List ℕ → Order → ℕ → ℕ → ℕ → ℤ → Answer ℤ × List ℕ
+correct_point f o g r c v = corrected_by f (mapped Grid (open_grid o f g)) r c v
 
 -- a correction as a store
 abbrev pub store_of : Layout → Correction → Store
 store_of l x = record { layout = l; request = point x.row x.column x.value }
 
 -- what two stores answer, one after the other
-abbrev pub twoSay : TwoAnswers → List Done
-twoSay r = storeSays r.first ∷ storeSays r.second ∷ []
+abbrev pub two_say : TwoAnswers → List Done
+two_say r = store_says r.first ∷ store_says r.second ∷ []
 
 -- what two corrections, one after the other, answer, and the file that they leave: a series of stores, as demand 3 speaks of them
-abbrev pub correctTwo : List ℕ → Layout → Correction → Correction → List Done × List ℕ
-correctTwo f l x y = (replies storesIn f (store_of l x ∷ store_of l y ∷ []), leaves storesIn f (store_of l x ∷ store_of l y ∷ []))
+abbrev pub correct_two : List ℕ → Layout → Correction → Correction → List Done × List ℕ
+correct_two f l x y = (replies stores_in f (store_of l x ∷ store_of l y ∷ []), leaves stores_in f (store_of l x ∷ store_of l y ∷ []))

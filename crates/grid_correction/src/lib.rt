@@ -1,7 +1,7 @@
 // An example of use: points of a grid are corrected in place.
 ghost use Rattle.std.specs.Prelude.{◌≡◌};
-ghost use Rattle.refusal_rules.specs.Answers.{wordSays};
-ghost use Rattle.grid_correction.specs.Corrections.{correctPoint, twoSay, correctTwo};
+ghost use Rattle.refusal_rules.specs.Answers.{word_says};
+ghost use Rattle.grid_correction.specs.Corrections.{correct_point, two_say, correct_two};
 
 use endian_rules::Order;
 use layout::open_grid;
@@ -36,7 +36,7 @@ pub fn correct_point(
     column: u32,
     value: i32,
 ) -> WordAnswer
-    ensures { (wordSays result, file.new) ≡ correctPoint file.old order number row column value }
+    ensures { (word_says result, file.new) ≡ correct_point file.old order number row column value }
 {
     match open_grid(file, order, number) {
         Opening::Refused(refusal) => WordAnswer::Refused(refusal),
@@ -55,7 +55,7 @@ pub fn correct_two(
     first: Correction,
     second: Correction,
 ) -> TwoAnswers
-    ensures { (twoSay result, file.new) ≡ correctTwo file.old layout first second }
+    ensures { (two_say result, file.new) ≡ correct_two file.old layout first second }
 {
     let one = store_point(file, layout, first.row, first.column, first.value);
     let other = store_point(file, layout, second.row, second.column, second.value);

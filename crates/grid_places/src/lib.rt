@@ -1,10 +1,10 @@
 // Where the points of a grid lie, by a layout alone. A layout may be one that a caller has made up: where a field of it is above the bounds that opening sets,
 // there is no such point, and nothing is computed from it.
 ghost use Rattle.std.specs.Prelude.{◌≡◌};
-ghost use Rattle.refusal_rules.specs.Rules.{firstFault};
-ghost use Rattle.refusal_rules.specs.Answers.{placeSays};
-ghost use Rattle.grid_rules.specs.Places.{pointRules, pointPlace};
-ghost use Rattle.grid_rules.specs.Points.{pointWord, IsPoint};
+ghost use Rattle.refusal_rules.specs.Rules.{first_fault};
+ghost use Rattle.refusal_rules.specs.Answers.{place_says};
+ghost use Rattle.grid_rules.specs.Places.{point_rules, point_place};
+ghost use Rattle.grid_rules.specs.Points.{point_word, IsPoint};
 ghost use Rattle.grid_rules.specs.Bounds.{GridBounds};
 
 use grid_rules::GridLayout;
@@ -13,7 +13,7 @@ use refusal_rules::{NO_SUCH, Place, PlaceAnswer, Verdict};
 
 // What the rules of a point of a row and a column say: 7 where there is no such row or column.
 fn point_verdict(layout: GridLayout, row: u32, column: u32) -> Verdict
-    ensures { result ≡ firstFault (pointRules layout row column) }
+    ensures { result ≡ first_fault (point_rules layout row column) }
 {
     let bounded = and(layout.rows <= 65535, layout.columns <= 65535);
     let sizes = check(Verdict::Pass, bounded, NO_SUCH, 0);
@@ -24,7 +24,7 @@ fn point_verdict(layout: GridLayout, row: u32, column: u32) -> Verdict
 // The word of the point of a row and a column.
 fn point_word(layout: GridLayout, row: u32, column: u32) -> usize
     requires { GridBounds layout × IsPoint layout row column }
-    ensures { result ≡ pointWord layout row column }
+    ensures { result ≡ point_word layout row column }
 {
     let before = (column - 1) as usize * layout.rows as usize;
     layout.offset as usize + 64 + before + (row - 1) as usize
@@ -33,7 +33,7 @@ fn point_word(layout: GridLayout, row: u32, column: u32) -> usize
 // The place of a point of a grid, named by row and column, both counted from 1. Refused with 7 where there is no such row or column, or the layout is above
 // the bounds that opening sets.
 pub fn point_place(layout: GridLayout, row: u32, column: u32) -> PlaceAnswer
-    ensures { placeSays result ≡ pointPlace layout row column }
+    ensures { place_says result ≡ point_place layout row column }
 {
     match point_verdict(layout, row, column) {
         Verdict::Fault(refusal) => PlaceAnswer::Refused(refusal),

@@ -12,15 +12,15 @@ use Rattle.endian_rules.specs.Words.{word_at}
 use Rattle.endian_rules.specs.declared.Order.{Order}
 use Rattle.lists.specs.Lists.{Outside, Apart}
 use Rattle.refusal_rules.specs.Answers.{gives}
-use Rattle.grid_rules.specs.Rules.{gridEnd}
+use Rattle.grid_rules.specs.Rules.{grid_end}
 use Rattle.grid_rules.specs.Accepts.{FullSlot, AcceptsGrid}
-use Rattle.grid_rules.specs.Opening.{gridLayoutOf, openGrid}
+use Rattle.grid_rules.specs.Opening.{grid_layout_of, open_grid}
 use Rattle.grid_rules.specs.declared.GridLayout.{GridLayout}
 use Rattle.grid_rules.proofs.Slots.{number-slot}
-use Rattle.grid_rules.proofs.Acceptance.{GridAt, grid-exactly, slot-grid, number-grid, slots_apart}
-use Rattle.grid_rules.proofs.Footprint.{grid-footprint}
-use Rattle.grid_rules.specs.Points.{headerWord, pointWord, IsPoint, GridOf}
-use Rattle.grid_rules.proofs.Points.{point-among}
+use Rattle.grid_rules.proofs.Acceptance.{GridAt, grid_exactly, slot-grid, number-grid, slots-apart}
+use Rattle.grid_rules.proofs.Footprint.{grid_footprint}
+use Rattle.grid_rules.specs.Points.{header_word, point_word, IsPoint, GridOf}
+use Rattle.grid_rules.proofs.Points.{point_among}
 
 -- ---- the grid of a number
 
@@ -30,20 +30,20 @@ pub record InFile (len : ℕ) (w : ℕ → ℕ) (number : ℕ) (l : GridLayout) 
   pub offset : l.offset ≡ w (10 + number)
   pub rows : l.rows ≡ w (l.offset + 1)
   pub columns : l.columns ≡ w (l.offset + 2)
-  pub end : gridEnd w l.offset ≡ l.offset + 64 + l.rows * l.columns
+  pub end : grid_end w l.offset ≡ l.offset + 64 + l.rows * l.columns
 
-module _ (o : Order) (f : List ℕ) (number : ℕ) (l : GridLayout) (e : openGrid o f number ≡ gives l) where
+module _ (o : Order) (f : List ℕ) (number : ℕ) (l : GridLayout) (e : open_grid o f number ≡ gives l) where
   accepted : AcceptsGrid (length f) (word_at o f) number
-  accepted = ((grid-exactly o f number l).0 e).0
+  accepted = ((grid_exactly o f number l).0 e).0
 
   grid : GridAt (length f) (word_at o f) (word_at o f (10 + number))
-  grid = number-grid (length f) (word_at o f) accepted.file number accepted.number-from accepted.number-to accepted.full
+  grid = number-grid (length f) (word_at o f) accepted.file number accepted.number_from accepted.number_to accepted.full
 
   -- the grid that was opened
-  pub in-file : InFile (length f) (word_at o f) number l
-  unfolding gridLayoutOf
-  in-file =
-      rw ((grid-exactly o f number l).0 e).1
+  pub in_file : InFile (length f) (word_at o f) number l
+  unfolding grid_layout_of
+  in_file =
+      rw ((grid_exactly o f number l).0 e).1
       (record {
         accepted = accepted;
         offset = refl;
@@ -53,39 +53,39 @@ module _ (o : Order) (f : List ℕ) (number : ℕ) (l : GridLayout) (e : openGri
       })
 
   -- what acceptance gives of its layout
-  pub grid-of : GridOf o f number l
-  unfolding gridLayoutOf
-  grid-of =
-      rw ((grid-exactly o f number l).0 e).1
+  pub grid_of_lem : GridOf o f number l
+  unfolding grid_layout_of
+  grid_of_lem =
+      rw ((grid_exactly o f number l).0 e).1
       (record {
         order = refl;
         size = refl;
         wanted = refl;
         fits =
             record {
-              number-from = accepted.number-from;
-              number-to = omega (arith, accepted.number-to, accepted.file.head.grids.1);
-              offset-from = omega (arith, accepted.number-to, grid.after-directory);
-              rows-from = grid.rows.0;
-              rows-to = grid.rows.1;
-              columns-from = grid.columns.0;
-              columns-to = grid.columns.1;
+              number_from = accepted.number_from;
+              number_to = omega (arith, accepted.number_to, accepted.file.head.grids.1);
+              offset_from = omega (arith, accepted.number_to, grid.after-directory);
+              rows_from = grid.rows.0;
+              rows_to = grid.rows.1;
+              columns_from = grid.columns.0;
+              columns_to = grid.columns.1;
               room = omega (arith, grid.inside, grid.size);
               small = omega (arith, grid.small, grid.size);
             };
       })
 
   -- header words 1, 2 and 3 hold its size, rows and columns
-  pub header-words : (word_at o f (headerWord l 1) ≡ l.rows * l.columns)
-      × (word_at o f (headerWord l 2) ≡ l.rows)
-      × (word_at o f (headerWord l 3) ≡ l.columns)
+  pub header-words : (word_at o f (header_word l 1) ≡ l.rows * l.columns)
+      × (word_at o f (header_word l 2) ≡ l.rows)
+      × (word_at o f (header_word l 3) ≡ l.columns)
   header-words =
-      let size : headerWord l 1 ≡ l.offset = omega arith in
-      let rows : headerWord l 2 ≡ l.offset + 1 = omega arith in
-      let columns : headerWord l 3 ≡ l.offset + 2 = omega arith in (
-        ap (word_at o f) size ∙ omega (arith, in-file.end),
-        ap (word_at o f) rows ∙ sym in-file.rows,
-        ap (word_at o f) columns ∙ sym in-file.columns,
+      let size : header_word l 1 ≡ l.offset = omega arith in
+      let rows : header_word l 2 ≡ l.offset + 1 = omega arith in
+      let columns : header_word l 3 ≡ l.offset + 2 = omega arith in (
+        ap (word_at o f) size ∙ omega (arith, in_file.end),
+        ap (word_at o f) rows ∙ sym in_file.rows,
+        ap (word_at o f) columns ∙ sym in_file.columns,
       )
 
 -- ---- its words among those of the file
@@ -98,32 +98,32 @@ pub record Elsewhere (w : ℕ → ℕ) (number x : ℕ) : Type 0 where
 
 module _ (len : ℕ) (w : ℕ → ℕ) (number : ℕ) (l : GridLayout) (g : InFile len w number l) where
   -- its slot
-  slot-in : number - 1 < w 10
-  slot-in = omega (arith, g.accepted.number-from, g.accepted.number-to)
+  slot_in : number - 1 < w 10
+  slot_in = omega (arith, g.accepted.number_from, g.accepted.number_to)
 
   slot-offset : w (11 + (number - 1)) ≡ l.offset
-  slot-offset = ap w (number-slot number g.accepted.number-from) ∙ sym g.offset
+  slot-offset = ap w (number-slot number g.accepted.number_from) ∙ sym g.offset
 
   slot-full : FullSlot w (number - 1)
-  slot-full e = g.accepted.full (ap w (sym (number-slot number g.accepted.number-from)) ∙ e)
+  slot-full e = g.accepted.full (ap w (sym (number-slot number g.accepted.number_from)) ∙ e)
 
   -- of this grid and one of another slot, one ends before the other begins
-  other-apart : (k : ℕ) → k < w 10 → FullSlot w k → ¬ (k + 1 ≡ number) → (gridEnd w (w (11 + k)) ≤ l.offset) ⊎ (gridEnd w l.offset ≤ w (11 + k))
-  other-apart k lt full other =
-      let slots : ¬ (k ≡ number - 1) = λ e. other (omega (arith, e, g.accepted.number-from)) in
-      rw slot-offset at (slots_apart len w g.accepted.file k (number - 1) lt slot-in slots full slot-full)
+  other_apart : (k : ℕ) → k < w 10 → FullSlot w k → ¬ (k + 1 ≡ number) → (grid_end w (w (11 + k)) ≤ l.offset) ⊎ (grid_end w l.offset ≤ w (11 + k))
+  other_apart k lt full other =
+      let slots : ¬ (k ≡ number - 1) = λ e. other (omega (arith, e, g.accepted.number_from)) in
+      rw slot-offset at (slots-apart len w g.accepted.file k (number - 1) lt slot_in slots full slot-full)
 
   -- a word of its data
-  data-elsewhere : (x : ℕ) → l.offset + 64 ≤ x → x < gridEnd w l.offset → Elsewhere w number x
-  data-elsewhere x from to =
+  data_elsewhere : (x : ℕ) → l.offset + 64 ≤ x → x < grid_end w l.offset → Elsewhere w number x
+  data_elsewhere x from to =
       record {
-        directory = omega (arith, from, (slot-grid len w g.accepted.file (number - 1) slot-in slot-full).after-directory, slot-offset);
+        directory = omega (arith, from, (slot-grid len w g.accepted.file (number - 1) slot_in slot-full).after-directory, slot-offset);
         headers = λ k lt full. headers k lt full (ℕ_discrete (k + 1) number);
         others = others;
       }
     where
       others : (k : ℕ) → k < w 10 → FullSlot w k → ¬ (k + 1 ≡ number) → Outside x (w (11 + k)) (64 + w (w (11 + k)))
-      others k lt full other = ⊎_elim (λ before. inr (omega arith)) (λ after. inl (omega arith)) (other-apart k lt full other)
+      others k lt full other = ⊎_elim (λ before. inr (omega arith)) (λ after. inl (omega arith)) (other_apart k lt full other)
 
       headers : (k : ℕ) → k < w 10 → FullSlot w k → Dec (k + 1 ≡ number) → Outside x (w (11 + k)) 64
       headers k lt full (yes e) =
@@ -132,35 +132,35 @@ module _ (len : ℕ) (w : ℕ → ℕ) (number : ℕ) (l : GridLayout) (g : InFi
       headers k lt full (no other) = ⊎_elim (λ low. inl low) (λ high. inr (omega arith)) (others k lt full other)
 
 -- a point of an opened grid is elsewhere
-pub point-elsewhere : (o : Order) (f : List ℕ) (number : ℕ) (l : GridLayout) → openGrid o f number ≡ gives l
-    → (r c : ℕ) → IsPoint l r c → Elsewhere (word_at o f) number (pointWord l r c)
-point-elsewhere o f number l e r c p =
-    let g : InFile (length f) (word_at o f) number l = in-file o f number l e in
-    data-elsewhere (length f) (word_at o f) number l g (pointWord l r c) (omega arith) (omega (arith, g.end, point-among l r c p))
+pub point_elsewhere : (o : Order) (f : List ℕ) (number : ℕ) (l : GridLayout) → open_grid o f number ≡ gives l
+    → (r c : ℕ) → IsPoint l r c → Elsewhere (word_at o f) number (point_word l r c)
+point_elsewhere o f number l e r c p =
+    let g : InFile (length f) (word_at o f) number l = in_file o f number l e in
+    data_elsewhere (length f) (word_at o f) number l g (point_word l r c) (omega arith) (omega (arith, g.end, point_among l r c p))
 
 -- two grids of different numbers of one opened file share no word, of the header or of the data
-pub grids-apart : (o : Order) (f : List ℕ) (a b : ℕ) (l m : GridLayout) → openGrid o f a ≡ gives l → openGrid o f b ≡ gives m → ¬ (a ≡ b)
+pub grids-apart : (o : Order) (f : List ℕ) (a b : ℕ) (l m : GridLayout) → open_grid o f a ≡ gives l → open_grid o f b ≡ gives m → ¬ (a ≡ b)
     → Apart l.offset (64 + l.rows * l.columns) m.offset (64 + m.rows * m.columns)
 grids-apart o f a b l m ea eb other =
     let w : ℕ → ℕ = word_at o f in
-    let x : InFile (length f) w a l = in-file o f a l ea in
-    let y : InFile (length f) w b m = in-file o f b m eb in
+    let x : InFile (length f) w a l = in_file o f a l ea in
+    let y : InFile (length f) w b m = in_file o f b m eb in
     let slot : w (11 + (a - 1)) ≡ l.offset = slot-offset (length f) w a l x in
-    let apart : (gridEnd w l.offset ≤ m.offset) ⊎ (gridEnd w m.offset ≤ l.offset) =
+    let apart : (grid_end w l.offset ≤ m.offset) ⊎ (grid_end w m.offset ≤ l.offset) =
     rw slot at
-    (other-apart (length f) w b m y (a - 1) (slot-in (length f) w a l x) (slot-full (length f) w a l x)
-    (λ e. other (omega (arith, e, x.accepted.number-from)))) in
+    (other_apart (length f) w b m y (a - 1) (slot_in (length f) w a l x) (slot-full (length f) w a l x)
+    (λ e. other (omega (arith, e, x.accepted.number_from)))) in
     ⊎_elim (λ before. inl (omega (arith, x.end, before))) (λ after. inr (omega (arith, y.end, after))) apart
 
 -- ---- what a store into a point leaves
 
 -- in a file of the same length, of which every word but that of a point of an opened grid is as it was, every opening answers as before, whatever
 -- its number
-pub store-frame : (o : Order) (f f' : List ℕ) (number : ℕ) (l : GridLayout) → openGrid o f number ≡ gives l → (r c : ℕ) → IsPoint l r c
-    → length f' ≡ length f → ((x : ℕ) → ¬ (x ≡ pointWord l r c) → word_at o f' x ≡ word_at o f x)
-    → (h : ℕ) → openGrid o f' h ≡ openGrid o f h
-store-frame o f f' number l e r c p size same =
-    grid-footprint o f f' size
+pub store_frame : (o : Order) (f f' : List ℕ) (number : ℕ) (l : GridLayout) → open_grid o f number ≡ gives l → (r c : ℕ) → IsPoint l r c
+    → length f' ≡ length f → ((x : ℕ) → ¬ (x ≡ point_word l r c) → word_at o f' x ≡ word_at o f x)
+    → (h : ℕ) → open_grid o f' h ≡ open_grid o f h
+store_frame o f f' number l e r c p size same =
+    grid_footprint o f f' size
     (record {
       count = same 10 (λ q. omega (arith, q, x.directory));
       next = same (11 + w 10) (λ q. omega (arith, q, x.directory));
@@ -177,9 +177,9 @@ store-frame o f f' number l e r c p size same =
     w : ℕ → ℕ
     w = word_at o f
 
-    x : Elsewhere (word_at o f) number (pointWord l r c)
-    x = point-elsewhere o f number l e r c p
+    x : Elsewhere (word_at o f) number (point_word l r c)
+    x = point_elsewhere o f number l e r c p
 
     header : (k : ℕ) → k < word_at o f 10 → FullSlot (word_at o f) k
-        → (i : ℕ) → word_at o f (11 + k) ≤ i → i < word_at o f (11 + k) + 64 → ¬ (i ≡ pointWord l r c)
+        → (i : ℕ) → word_at o f (11 + k) ≤ i → i < word_at o f (11 + k) + 64 → ¬ (i ≡ point_word l r c)
     header k lt full i from to q = ⊎_elim (λ low. omega arith) (λ high. omega arith) (x.headers k lt full)

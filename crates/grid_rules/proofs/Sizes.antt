@@ -7,5 +7,5 @@ use Rattle.grid_rules.specs.declared.GridLayout.{GridLayout}
 use Rattle.grid_rules.specs.Bounds.{GridBounds}
 
 -- the points before column c
-pub points-most : {l : GridLayout} → GridBounds l → (c : ℕ) → c ≤ l.columns → (c - 1) * l.rows ≤ 65535 * 65535
-points-most b c h = mul-le-mul {n₂ = 65535} {m₂ = 65535} (omega (arith, h, b.columns)) b.rows
+pub points_most : {l : GridLayout} → GridBounds l → (c : ℕ) → c ≤ l.columns → (c - 1) * l.rows ≤ 65535 * 65535
+points_most b c h = mul-le-mul {n₂ = 65535} {m₂ = 65535} (omega (arith, h, b.columns)) b.rows

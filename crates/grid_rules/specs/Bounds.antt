@@ -6,8 +6,8 @@ use Rattle.lists.specs.Choices.{both}
 use Rattle.grid_rules.specs.declared.GridLayout.{GridLayout}
 
 -- whether rows and columns of a layout are at most what opening accepts
-unfoldable pub gridBounded : GridLayout → Bool
-gridBounded l = both (leb l.rows 65535) (leb l.columns 65535)
+unfoldable pub grid_bounded : GridLayout → Bool
+grid_bounded l = both (leb l.rows 65535) (leb l.columns 65535)
 
 -- rows and columns of a layout are at most what opening accepts
 pub record GridBounds (l : GridLayout) : Type 0 where

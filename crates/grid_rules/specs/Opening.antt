@@ -1,24 +1,24 @@
 -- What opening a GRID file answers: document 01, "What comes back".
 -- Assumes nothing.
 use Rattle.std.specs.Prelude.{Bool, List, [], ◌∷◌, ◌++◌, ℕ, ◌+◌, length}
-use Rattle.endian_rules.specs.Words.{word_at, orderNumber}
+use Rattle.endian_rules.specs.Words.{word_at, order_number}
 use Rattle.endian_rules.specs.declared.Order.{Order}
-use Rattle.refusal_rules.specs.Rules.{firstFault}
+use Rattle.refusal_rules.specs.Rules.{first_fault}
 use Rattle.refusal_rules.specs.Answers.{Answer, gives, refuses, answered}
 use Rattle.refusal_rules.specs.Tests.{same_numbers}
-use Rattle.grid_rules.specs.Rules.{gridFileRules, wantedRules}
+use Rattle.grid_rules.specs.Rules.{grid_file_rules, wanted_rules}
 use Rattle.grid_rules.specs.declared.GridLayout.{GridLayout}
 use Rattle.grid_rules.specs.declared.GridOpening.{GridOpening}
 use Rattle.grid_rules.specs.declared.GridOpening.TheVariants.{Opened, Refused}
 
 -- what each case of the answer of opening a GRID file says
-abbrev pub gridSays : GridOpening → Answer GridLayout
-gridSays (Opened l) = gives l
-gridSays (Refused r) = refuses r.number r.place
+abbrev pub grid_says : GridOpening → Answer GridLayout
+grid_says (Opened l) = gives l
+grid_says (Refused r) = refuses r.number r.place
 
 -- the layout of a grid that the words of a file of `len` bytes give: "grid number, offset, rows, columns"
-unfoldable pub gridLayoutOf : Order → ℕ → (ℕ → ℕ) → ℕ → GridLayout
-gridLayoutOf o len w number =
+unfoldable pub grid_layout_of : Order → ℕ → (ℕ → ℕ) → ℕ → GridLayout
+grid_layout_of o len w number =
     record {
       order = o;
       length = len;
@@ -29,21 +29,21 @@ gridLayoutOf o len w number =
     }
 
 -- opening a grid, where the file's own checks have passed
-unfoldable pub openWanted : Order → ℕ → (ℕ → ℕ) → ℕ → Answer GridLayout
-openWanted o len w number = answered (firstFault (wantedRules w number)) (gridLayoutOf o len w number)
+unfoldable pub open_wanted : Order → ℕ → (ℕ → ℕ) → ℕ → Answer GridLayout
+open_wanted o len w number = answered (first_fault (wanted_rules w number)) (grid_layout_of o len w number)
 
 -- opening a grid of a file of `len` bytes, by the file's raw words
-unfoldable pub openGridWords : Order → ℕ → (ℕ → ℕ) → ℕ → Answer GridLayout
-openGridWords o len w number = answered (firstFault (gridFileRules len w ++ wantedRules w number)) (gridLayoutOf o len w number)
+unfoldable pub open_grid_words : Order → ℕ → (ℕ → ℕ) → ℕ → Answer GridLayout
+open_grid_words o len w number = answered (first_fault (grid_file_rules len w ++ wanted_rules w number)) (grid_layout_of o len w number)
 
 -- opening a grid of a file in a byte order
-unfoldable pub openGrid : Order → List ℕ → ℕ → Answer GridLayout
-openGrid o f number = openGridWords o (length f) (word_at o f) number
+unfoldable pub open_grid : Order → List ℕ → ℕ → Answer GridLayout
+open_grid o f number = open_grid_words o (length f) (word_at o f) number
 
 -- the fields of a GRID layout as numbers
-abbrev pub gridNumbers : GridLayout → List ℕ
-gridNumbers l =
-    orderNumber l.order
+abbrev pub grid_numbers : GridLayout → List ℕ
+grid_numbers l =
+    order_number l.order
     ∷ l.length
     ∷ l.number
     ∷ l.offset
@@ -52,5 +52,5 @@ gridNumbers l =
     ∷ []
 
 -- whether two GRID layouts are the same in every field
-unfoldable pub sameGrid : GridLayout → GridLayout → Bool
-sameGrid a b = same_numbers (gridNumbers a) (gridNumbers b)
+unfoldable pub same_grid : GridLayout → GridLayout → Bool
+same_grid a b = same_numbers (grid_numbers a) (grid_numbers b)

@@ -2,11 +2,11 @@
 // Functions that look at one slot ask of their caller that the checks before it have passed.
 ghost use Rattle.std.specs.Prelude.{◌≡◌, ◌+◌, ◌*◌, ◌≤◌, ◌<◌, length};
 ghost use Rattle.endian_rules.specs.Words.{word_at};
-ghost use Rattle.refusal_rules.specs.Rules.{firstFault, rule, judge, first};
+ghost use Rattle.refusal_rules.specs.Rules.{first_fault, rule, judge, first};
 ghost use Rattle.refusal_rules.specs.Tests.{within};
-ghost use Rattle.grid_rules.specs.Rules.{gridHeadRules, sizeRules, ownRules, meets, slotRules, gridFileRules};
+ghost use Rattle.grid_rules.specs.Rules.{grid_head_rules, size_rules, own_rules, meets, slot_rules, grid_file_rules};
 ghost use Rattle.grid_rules.specs.Accepts.{GridRoom};
-ghost use Rattle.grid_rules.specs.Opening.{gridSays, openWanted};
+ghost use Rattle.grid_rules.specs.Opening.{grid_says, open_wanted};
 
 use endian::at_least;
 use endian_rules::Order;
@@ -20,7 +20,7 @@ use refusal_rules::{
 // What the checks before the slots say: 1 where the file is shorter than 44 bytes, 3 at 10 for the number of grids, 5 at 10 where the
 // directory has no room, 5 at 11 + n for the next free word.
 pub fn head_verdict(file: &[u8], order: Order) -> Verdict
-    ensures { result ≡ firstFault (gridHeadRules (length file.now) (word_at order file.now)) }
+    ensures { result ≡ first_fault (grid_head_rules (length file.now) (word_at order file.now)) }
 {
     let len = file.len();
     if len < 44 {
@@ -53,7 +53,7 @@ fn count(verdict: Verdict, n: u32, place: usize) -> Verdict
 // What the header at an offset says: rows, columns, size and end. The caller must make sure that the 64 words of the header are inside the file.
 fn size_verdict(file: &[u8], order: Order, next: usize, k: usize, offset: usize) -> Verdict
     requires { (4 * next ≤ length file.now) × ((next < 2147483648) × ((k < 1024) × (offset + 64 ≤ next))) }
-    ensures { result ≡ firstFault (sizeRules (word_at order file.now) next k offset) }
+    ensures { result ≡ first_fault (size_rules (word_at order file.now) next k offset) }
 {
     let size = read_word(order, file, offset);
     let rows = read_word(order, file, offset + 1);
@@ -70,7 +70,7 @@ fn size_verdict(file: &[u8], order: Order, next: usize, k: usize, offset: usize)
 // `next` are the number of grids and the next free word. The caller must make sure that the checks before the slots have passed.
 pub fn own_verdict(file: &[u8], order: Order, n: usize, next: usize, k: usize) -> Verdict
     requires { GridRoom (length file.now) n next × (k < n) }
-    ensures { result ≡ firstFault (ownRules (word_at order file.now) n next k) }
+    ensures { result ≡ first_fault (own_rules (word_at order file.now) n next k) }
 {
     let word = read_word(order, file, 11 + k);
     let offset = word as usize;
@@ -92,7 +92,7 @@ pub fn meets_slot(
     low: usize,
     high: usize,
 ) -> bool
-    requires { GridRoom (length file.now) n next × ((j < n) × (firstFault (slotRules (word_at order file.now) n next j) ≡ Verdict.Pass)) }
+    requires { GridRoom (length file.now) n next × ((j < n) × (first_fault (slot_rules (word_at order file.now) n next j) ≡ Verdict.Pass)) }
     ensures { result ≡ meets (word_at order file.now) low high j }
 {
     let word = read_word(order, file, 11 + j);
@@ -107,8 +107,8 @@ pub fn meets_slot(
 // Opens a grid of a file whose checks have passed, which the caller must make sure of. Refused with 7 for a grid number that the file does not
 // have, and with 6 for an empty slot.
 pub fn open_wanted(file: &[u8], order: Order, number: u32) -> GridOpening
-    requires { firstFault (gridFileRules (length file.now) (word_at order file.now)) ≡ Verdict.Pass }
-    ensures { gridSays result ≡ openWanted order (length file.now) (word_at order file.now) number }
+    requires { first_fault (grid_file_rules (length file.now) (word_at order file.now)) ≡ Verdict.Pass }
+    ensures { grid_says result ≡ open_wanted order (length file.now) (word_at order file.now) number }
 {
     let n = read_word(order, file, 10);
     if !within(1, n, number) {

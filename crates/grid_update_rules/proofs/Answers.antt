@@ -3,7 +3,7 @@
 use mathlib.Core.Path.{◌≡◌, refl}
 use Rattle.refusal_rules.specs.Answers.{Answer, gives, refuses}
 use Rattle.refusal_rules.proofs.Answers.{settled}
-use Rattle.grid_update_rules.specs.Updates.{addSays}
+use Rattle.grid_update_rules.specs.Updates.{add_says}
 use Rattle.grid_update_rules.specs.declared.Added.{Added}
 use Rattle.grid_update_rules.specs.declared.AddAnswer.{AddAnswer}
 use Rattle.grid_update_rules.specs.declared.AddAnswer.TheVariants.{Done, Refused}
@@ -13,10 +13,10 @@ back (gives a) = Done a
 back (refuses n p) = Refused (record { number = n; place = p })
 
 -- two answers that say the same are the same
-pub add-settled : (x y : AddAnswer) → addSays x ≡ addSays y → x ≡ y
+pub add_settled : (x y : AddAnswer) → add_says x ≡ add_says y → x ≡ y
 unfolding back
-add-settled = settled addSays back (λ x. step x)
+add_settled = settled add_says back (λ x. step x)
   where
-    step : (x : AddAnswer) → back (addSays x) ≡ x
+    step : (x : AddAnswer) → back (add_says x) ≡ x
     step (Done a) = refl
     step (Refused r) = refl

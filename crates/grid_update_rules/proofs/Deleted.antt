@@ -12,21 +12,21 @@ use borrow.Author.Tests.{eq-eqb}
 use Rattle.lists.specs.Lists.{Outside}
 use Rattle.endian_rules.specs.Words.{word_at}
 use Rattle.endian_rules.specs.declared.Order.{Order}
-use Rattle.refusal_rules.specs.Rules.{Rule, judge, first, firstFault}
+use Rattle.refusal_rules.specs.Rules.{Rule, judge, first, first_fault}
 use Rattle.refusal_rules.specs.Answers.{refuses}
 use Rattle.refusal_rules.specs.Tests.{within}
 use Rattle.refusal_rules.specs.declared.Verdict.TheVariants.{Pass}
-use Rattle.refusal_rules.proofs.Exactness.{le-exactly, within-exactly}
-use Rattle.refusal_rules.proofs.Tables.{pass-hold, hold-pass, pass-joined, joined-pass}
-use Rattle.grid_rules.specs.Rules.{emptySlot, gridEnd, gridFileRules, wantedRules}
+use Rattle.refusal_rules.proofs.Exactness.{le_exactly, within_exactly}
+use Rattle.refusal_rules.proofs.Tables.{pass_hold, hold_pass, pass_joined, joined_pass}
+use Rattle.grid_rules.specs.Rules.{empty_slot, grid_end, grid_file_rules, wanted_rules}
 use Rattle.grid_rules.specs.Accepts.{FullSlot}
-use Rattle.grid_rules.specs.Opening.{openWanted, openGrid}
-use Rattle.grid_rules.proofs.Acceptance.{GridAt, number-grid, file-passes, open-split, wanted-exactly}
-use Rattle.extent_rules.specs.Stretches.{highestEnd, first_word}
+use Rattle.grid_rules.specs.Opening.{open_wanted, open_grid}
+use Rattle.grid_rules.proofs.Acceptance.{GridAt, number-grid, file_passes, open_split, wanted_exactly}
+use Rattle.extent_rules.specs.Stretches.{highest_end, first_word}
 use Rattle.extent_rules.specs.Steps.{GridAccepted, SlotsInside}
-use Rattle.grid_update_rules.specs.Updates.{setWord, nextFreeSet, deleteOwn, deleteRules, withoutGrid}
-use Rattle.grid_update_rules.proofs.Words.{set-length, set_here, set_other, set-byte}
-use Rattle.grid_update_rules.proofs.Highest.{HighestIs, Laid, Fewer, laid-slots, laid-highest, laid-fewer, next-length, next-other, next-byte, next_word, next-highest, laid-accepted, accepted-laid, open-alike}
+use Rattle.grid_update_rules.specs.Updates.{set_word, next_free_set, delete_own, delete_rules, without_grid}
+use Rattle.grid_update_rules.proofs.Words.{set-length, set_here, set_other, set_byte}
+use Rattle.grid_update_rules.proofs.Highest.{HighestIs, Laid, Fewer, laid_slots, laid_highest, laid_fewer, next-length, next_other, next_byte, next_word, next_highest, laid_accepted, accepted_laid, open_alike}
 
 -- ---- when a grid is deleted
 
@@ -36,160 +36,160 @@ pub record Deletes (o : Order) (f : List ℕ) (number size : ℕ) : Type 0 where
   pub table : word_at o f 10 + 1 ≤ size
   pub from : 1 ≤ number
   pub to : number ≤ word_at o f 10
-  pub full : ¬ (word_at o f (10 + number) ≡ emptySlot)
+  pub full : ¬ (word_at o f (10 + number) ≡ empty_slot)
 
 -- the rules of deleting pass exactly there
-pub delete-passes : (o : Order) (f : List ℕ) (number size : ℕ) → (firstFault (deleteRules o f number size) ≡ Pass) ↔ Deletes o f number size
-unfolding deleteRules
-delete-passes o f number size =
+pub delete_passes : (o : Order) (f : List ℕ) (number size : ℕ) → (first_fault (delete_rules o f number size) ≡ Pass) ↔ Deletes o f number size
+unfolding delete_rules
+delete_passes o f number size =
     let w : ℕ → ℕ = word_at o f in
-    let file : List Rule = gridFileRules (length f) w in
-    let rest : List Rule = deleteOwn w number size in
-    let table = le-exactly (w 10 + 1) size in
-    let wanted = wanted-exactly w number in (
+    let file : List Rule = grid_file_rules (length f) w in
+    let rest : List Rule = delete_own w number size in
+    let table = le_exactly (w 10 + 1) size in
+    let wanted = wanted_exactly w number in (
       λ e.
-          let p = joined-pass file rest e in
-          let h = pass-hold rest p.1 in
+          let p = joined_pass file rest e in
+          let h = pass_hold rest p.1 in
           let x = wanted.0 h.1 in
           record { accepted = p.0; table = table.sound h.0; from = x.0.0; to = x.0.1; full = x.1 },
       λ d.
-          sym (pass-joined file rest d.accepted)
-          ∙ hold-pass rest (table.complete d.table, wanted.1 ((d.from, d.to), d.full)),
+          sym (pass_joined file rest d.accepted)
+          ∙ hold_pass rest (table.complete d.table, wanted.1 ((d.from, d.to), d.full)),
     )
 
 -- a file is as long as it was once a word is set, and then the next free word
-set-next-length : (o : Order) (f : List ℕ) (k n : ℕ) → length (nextFreeSet o (setWord o f k n)) ≡ length f
-set-next-length o f k n = next-length o (setWord o f k n) ∙ set-length o f k n
+set-next-length : (o : Order) (f : List ℕ) (k n : ℕ) → length (next_free_set o (set_word o f k n)) ≡ length f
+set-next-length o f k n = next-length o (set_word o f k n) ∙ set-length o f k n
 
 -- the changed file is as long as it was
-pub deleted-length : (o : Order) (f : List ℕ) (number : ℕ) → length (withoutGrid o f number) ≡ length f
-unfolding withoutGrid
-deleted-length o f number = set-next-length o f _ _
+pub deleted_length : (o : Order) (f : List ℕ) (number : ℕ) → length (without_grid o f number) ≡ length f
+unfolding without_grid
+deleted_length o f number = set-next-length o f _ _
 
-module _ (o : Order) (f : List ℕ) (number size : ℕ) (pass : firstFault (deleteRules o f number size) ≡ Pass) where
+module _ (o : Order) (f : List ℕ) (number size : ℕ) (pass : first_fault (delete_rules o f number size) ≡ Pass) where
   d : Deletes o f number size
-  d = (delete-passes o f number size).0 pass
+  d = (delete_passes o f number size).0 pass
 
   laid : Laid (length f) (word_at o f)
-  laid = accepted-laid o f d.accepted
+  laid = accepted_laid o f d.accepted
 
   -- ---- the file with the slot set to -1
 
   -- its slot is empty
-  slot-empty : word_at o (setWord o f (10 + number) emptySlot) (10 + number) ≡ emptySlot
-  slot-empty = set_here o f (10 + number) emptySlot (omega (arith, laid.room, d.to)) (omega arith)
+  slot_empty : word_at o (set_word o f (10 + number) empty_slot) (10 + number) ≡ empty_slot
+  slot_empty = set_here o f (10 + number) empty_slot (omega (arith, laid.room, d.to)) (omega arith)
 
-  slot-other : (j : ℕ) → ¬ (j ≡ 10 + number) → word_at o (setWord o f (10 + number) emptySlot) j ≡ word_at o f j
-  slot-other = set_other o f (10 + number) emptySlot
+  slot_other : (j : ℕ) → ¬ (j ≡ 10 + number) → word_at o (set_word o f (10 + number) empty_slot) j ≡ word_at o f j
+  slot_other = set_other o f (10 + number) empty_slot
 
-  slot-count : word_at o (setWord o f (10 + number) emptySlot) 10 ≡ word_at o f 10
-  slot-count = slot-other 10 (λ e. omega (arith, e, d.from))
+  slot_count : word_at o (set_word o f (10 + number) empty_slot) 10 ≡ word_at o f 10
+  slot_count = slot_other 10 (λ e. omega (arith, e, d.from))
 
-  slot-full : (k : ℕ) → FullSlot (word_at o (setWord o f (10 + number) emptySlot)) k → ¬ (11 + k ≡ 10 + number)
-  slot-full k full e = full (ap (word_at o (setWord o f (10 + number) emptySlot)) e ∙ slot-empty)
+  slot-full : (k : ℕ) → FullSlot (word_at o (set_word o f (10 + number) empty_slot)) k → ¬ (11 + k ≡ 10 + number)
+  slot-full k full e = full (ap (word_at o (set_word o f (10 + number) empty_slot)) e ∙ slot_empty)
 
-  slot-fewer : Fewer (word_at o f) (word_at o (setWord o f (10 + number) emptySlot))
-  slot-fewer =
+  slot_fewer : Fewer (word_at o f) (word_at o (set_word o f (10 + number) empty_slot))
+  slot_fewer =
       record {
-        count = slot-count;
-        full = λ k l full e. full (slot-other (11 + k) (slot-full k full) ∙ e);
+        count = slot_count;
+        full = λ k l full e. full (slot_other (11 + k) (slot-full k full) ∙ e);
         same =
             λ k l full.
             record {
-              offset = slot-other (11 + k) (slot-full k full);
-              size = λ fw. slot-other (word_at o f (11 + k)) (λ e. omega (arith, e, d.to, (laid.grid k l fw).after-directory));
-              rows = λ fw. slot-other (word_at o f (11 + k) + 1) (λ e. omega (arith, e, d.to, (laid.grid k l fw).after-directory));
-              columns = λ fw. slot-other (word_at o f (11 + k) + 2) (λ e. omega (arith, e, d.to, (laid.grid k l fw).after-directory));
+              offset = slot_other (11 + k) (slot-full k full);
+              size = λ fw. slot_other (word_at o f (11 + k)) (λ e. omega (arith, e, d.to, (laid.grid k l fw).after-directory));
+              rows = λ fw. slot_other (word_at o f (11 + k) + 1) (λ e. omega (arith, e, d.to, (laid.grid k l fw).after-directory));
+              columns = λ fw. slot_other (word_at o f (11 + k) + 2) (λ e. omega (arith, e, d.to, (laid.grid k l fw).after-directory));
             };
       }
 
   -- but for its next free word it is as acceptance asks
-  pub slot-laid : Laid (length (setWord o f (10 + number) emptySlot)) (word_at o (setWord o f (10 + number) emptySlot))
-  slot-laid =
-      rw (set-length o f (10 + number) emptySlot)
-      (laid-fewer (length f) (word_at o f) (word_at o (setWord o f (10 + number) emptySlot)) slot-fewer laid)
+  pub slot_laid : Laid (length (set_word o f (10 + number) empty_slot)) (word_at o (set_word o f (10 + number) empty_slot))
+  slot_laid =
+      rw (set-length o f (10 + number) empty_slot)
+      (laid_fewer (length f) (word_at o f) (word_at o (set_word o f (10 + number) empty_slot)) slot_fewer laid)
 
   -- so its slots can be read
-  pub deleted-slots : SlotsInside (length (setWord o f (10 + number) emptySlot)) (word_at o (setWord o f (10 + number) emptySlot))
-  deleted-slots = laid-slots (length (setWord o f (10 + number) emptySlot)) (word_at o (setWord o f (10 + number) emptySlot)) slot-laid
+  pub deleted_slots : SlotsInside (length (set_word o f (10 + number) empty_slot)) (word_at o (set_word o f (10 + number) empty_slot))
+  deleted_slots = laid_slots (length (set_word o f (10 + number) empty_slot)) (word_at o (set_word o f (10 + number) empty_slot)) slot_laid
 
   -- and its highest grid ends below 2 ^ 31
   pub deleted-small :
-      let w : ℕ → ℕ = word_at o (setWord o f (10 + number) emptySlot) in highestEnd w (first_word w) (w 10) < 2 ^ 31
-  deleted-small = (laid-highest (length (setWord o f (10 + number) emptySlot)) (word_at o (setWord o f (10 + number) emptySlot)) slot-laid).1
+      let w : ℕ → ℕ = word_at o (set_word o f (10 + number) empty_slot) in highest_end w (first_word w) (w 10) < 2 ^ 31
+  deleted-small = (laid_highest (length (set_word o f (10 + number) empty_slot)) (word_at o (set_word o f (10 + number) empty_slot)) slot_laid).1
 
   -- ---- the changed file
 
   -- it is accepted
-  pub deleted-accepted : GridAccepted o (withoutGrid o f number)
-  unfolding withoutGrid
-  deleted-accepted = laid-accepted o (setWord o f (10 + number) emptySlot) slot-laid
+  pub deleted_accepted : GridAccepted o (without_grid o f number)
+  unfolding without_grid
+  deleted_accepted = laid_accepted o (set_word o f (10 + number) empty_slot) slot_laid
 
   -- every word but the slot and the next free word is as it was
-  pub deleted-words : (j : ℕ) → ¬ (j ≡ 10 + number) → ¬ (j ≡ 11 + word_at o f 10) → word_at o (withoutGrid o f number) j ≡ word_at o f j
-  unfolding withoutGrid
-  deleted-words j slot next = next-other o (setWord o f (10 + number) emptySlot) j (λ e. next (omega (arith, e, slot-count))) ∙ slot-other j slot
+  pub deleted_words : (j : ℕ) → ¬ (j ≡ 10 + number) → ¬ (j ≡ 11 + word_at o f 10) → word_at o (without_grid o f number) j ≡ word_at o f j
+  unfolding without_grid
+  deleted_words j slot next = next_other o (set_word o f (10 + number) empty_slot) j (λ e. next (omega (arith, e, slot_count))) ∙ slot_other j slot
 
   -- and so is every byte outside the two
-  pub deleted-bytes : (i : ℕ) → Outside i (4 * (10 + number)) 4 → Outside i (4 * (11 + word_at o f 10)) 4
-      → get_or (withoutGrid o f number) i 0 ≡ get_or f i 0
-  unfolding withoutGrid
-  deleted-bytes i slot next =
-      next-byte o (setWord o f (10 + number) emptySlot) i (rw slot-count next) ∙ set-byte o f (10 + number) emptySlot i slot
+  pub deleted_bytes : (i : ℕ) → Outside i (4 * (10 + number)) 4 → Outside i (4 * (11 + word_at o f 10)) 4
+      → get_or (without_grid o f number) i 0 ≡ get_or f i 0
+  unfolding without_grid
+  deleted_bytes i slot next =
+      next_byte o (set_word o f (10 + number) empty_slot) i (rw slot_count next) ∙ set_byte o f (10 + number) empty_slot i slot
 
   -- n is as it was
-  pub deleted-count : word_at o (withoutGrid o f number) 10 ≡ word_at o f 10
-  deleted-count = deleted-words 10 (λ e. omega (arith, e, d.from)) (λ e. omega (arith, e))
+  pub deleted_count : word_at o (without_grid o f number) 10 ≡ word_at o f 10
+  deleted_count = deleted_words 10 (λ e. omega (arith, e, d.from)) (λ e. omega (arith, e))
 
   -- the slot is empty: "deleting sets the slot to -1"
-  pub deleted-slot : word_at o (withoutGrid o f number) (10 + number) ≡ emptySlot
-  unfolding withoutGrid
-  deleted-slot = next-other o (setWord o f (10 + number) emptySlot) (10 + number) (λ e. omega (arith, e, slot-count, d.to)) ∙ slot-empty
+  pub deleted_slot : word_at o (without_grid o f number) (10 + number) ≡ empty_slot
+  unfolding without_grid
+  deleted_slot = next_other o (set_word o f (10 + number) empty_slot) (10 + number) (λ e. omega (arith, e, slot_count, d.to)) ∙ slot_empty
 
   -- the next free word is the end of the highest grid of the changed file
-  pub deleted-highest : word_at o (withoutGrid o f number) (11 + word_at o f 10)
-      ≡ highestEnd (word_at o (withoutGrid o f number)) (12 + word_at o f 10) (word_at o f 10)
-  unfolding withoutGrid
-  deleted-highest = rw deleted-count at (next_word o (setWord o f (10 + number) emptySlot) slot-laid)
+  pub deleted_highest : word_at o (without_grid o f number) (11 + word_at o f 10)
+      ≡ highest_end (word_at o (without_grid o f number)) (12 + word_at o f 10) (word_at o f 10)
+  unfolding without_grid
+  deleted_highest = rw deleted_count at (next_word o (set_word o f (10 + number) empty_slot) slot_laid)
 
   -- which is to say, "the end of the highest grid, or 12+n if there is none"
-  pub deleted-next : HighestIs (word_at o (withoutGrid o f number)) (12 + word_at o f 10) (word_at o f 10) (word_at o (withoutGrid o f number) (11 + word_at o f 10))
-  unfolding withoutGrid
-  deleted-next = rw deleted-count at (next-highest o (setWord o f (10 + number) emptySlot) slot-laid)
+  pub deleted_next : HighestIs (word_at o (without_grid o f number)) (12 + word_at o f 10) (word_at o f 10) (word_at o (without_grid o f number) (11 + word_at o f 10))
+  unfolding without_grid
+  deleted_next = rw deleted_count at (next_highest o (set_word o f (10 + number) empty_slot) slot_laid)
 
   -- ---- the grids
 
   -- from 12 + n on every word is as it was
-  pub deleted-behind : (p : ℕ) → 12 + word_at o f 10 ≤ p → word_at o (withoutGrid o f number) p ≡ word_at o f p
-  deleted-behind p from = deleted-words p (λ e. omega (arith, e, from, d.to)) (λ e. omega (arith, e, from))
+  pub deleted_behind : (p : ℕ) → 12 + word_at o f 10 ≤ p → word_at o (without_grid o f number) p ≡ word_at o f p
+  deleted_behind p from = deleted_words p (λ e. omega (arith, e, from, d.to)) (λ e. omega (arith, e, from))
 
   -- the grid of a number
-  other-grid : (m : ℕ) → 1 ≤ m → m ≤ word_at o f 10 → ¬ (word_at o f (10 + m) ≡ emptySlot) → GridAt (length f) (word_at o f) (word_at o f (10 + m))
-  other-grid = number-grid (length f) (word_at o f) ((file-passes (length f) (word_at o f)).0 d.accepted)
+  other_grid : (m : ℕ) → 1 ≤ m → m ≤ word_at o f 10 → ¬ (word_at o f (10 + m) ≡ empty_slot) → GridAt (length f) (word_at o f) (word_at o f (10 + m))
+  other_grid = number-grid (length f) (word_at o f) ((file_passes (length f) (word_at o f)).0 d.accepted)
 
   -- so every grid keeps every word, header and data
-  pub deleted-kept : (m : ℕ) → 1 ≤ m → m ≤ word_at o f 10 → ¬ (word_at o f (10 + m) ≡ emptySlot)
-      → (p : ℕ) → word_at o f (10 + m) ≤ p → p < gridEnd (word_at o f) (word_at o f (10 + m)) → word_at o (withoutGrid o f number) p ≡ word_at o f p
-  deleted-kept m from to full p low high = deleted-behind p (omega (arith, low, (other-grid m from to full).after-directory))
+  pub deleted_kept : (m : ℕ) → 1 ≤ m → m ≤ word_at o f 10 → ¬ (word_at o f (10 + m) ≡ empty_slot)
+      → (p : ℕ) → word_at o f (10 + m) ≤ p → p < grid_end (word_at o f) (word_at o f (10 + m)) → word_at o (without_grid o f number) p ≡ word_at o f p
+  deleted_kept m from to full p low high = deleted_behind p (omega (arith, low, (other_grid m from to full).after-directory))
 
   -- every other number opens as before
-  pub deleted-others : (m : ℕ) → ¬ (m ≡ number) → openGrid o (withoutGrid o f number) m ≡ openGrid o f m
-  deleted-others m other =
-      open-alike o f (withoutGrid o f number) (deleted-length o f number) d.accepted deleted-accepted deleted-count m
+  pub deleted_others : (m : ℕ) → ¬ (m ≡ number) → open_grid o (without_grid o f number) m ≡ open_grid o f m
+  deleted_others m other =
+      open_alike o f (without_grid o f number) (deleted_length o f number) d.accepted deleted_accepted deleted_count m
       (λ from to.
       record {
-        offset = deleted-words (10 + m) (λ e. other (omega (arith, e))) (λ e. omega (arith, e, to));
-        size = λ full. deleted-behind (word_at o f (10 + m)) (other-grid m from to full).after-directory;
-        rows = λ full. deleted-behind (word_at o f (10 + m) + 1) (omega (arith, (other-grid m from to full).after-directory));
-        columns = λ full. deleted-behind (word_at o f (10 + m) + 2) (omega (arith, (other-grid m from to full).after-directory));
+        offset = deleted_words (10 + m) (λ e. other (omega (arith, e))) (λ e. omega (arith, e, to));
+        size = λ full. deleted_behind (word_at o f (10 + m)) (other_grid m from to full).after-directory;
+        rows = λ full. deleted_behind (word_at o f (10 + m) + 1) (omega (arith, (other_grid m from to full).after-directory));
+        columns = λ full. deleted_behind (word_at o f (10 + m) + 2) (omega (arith, (other_grid m from to full).after-directory));
       })
 
   -- the deleted one is not there
-  pub deleted-gone : openGrid o (withoutGrid o f number) number ≡ refuses 6 0
-  unfolding openGrid openWanted wantedRules firstFault judge first
-  deleted-gone =
-      let g : List ℕ = withoutGrid o f number in
+  pub deleted_gone : open_grid o (without_grid o f number) number ≡ refuses 6 0
+  unfolding open_grid open_wanted wanted_rules first_fault judge first
+  deleted_gone =
+      let g : List ℕ = without_grid o f number in
       let range : within 1 (word_at o g 10) number ≡ true =
-      (within-exactly 1 (word_at o g 10) number).complete (d.from, omega (arith, d.to, deleted-count)) in
-      open-split o (length g) (word_at o g) number Pass deleted-accepted
-      ∙ rw (range, eq-eqb (word_at o g (10 + number)) emptySlot deleted-slot)
+      (within_exactly 1 (word_at o g 10) number).complete (d.from, omega (arith, d.to, deleted_count)) in
+      open_split o (length g) (word_at o g) number Pass deleted_accepted
+      ∙ rw (range, eq-eqb (word_at o g (10 + number)) empty_slot deleted_slot)

@@ -5,11 +5,11 @@ ghost use Rattle.std.specs.Int.{w32};
 ghost use Rattle.std.proofs.Common.{of_z};
 ghost use Rattle.endian_rules.specs.Words.{word_at};
 ghost use Rattle.endian_rules.specs.Files.{bytes_of};
-ghost use Rattle.refusal_rules.specs.Rules.{firstFault};
-ghost use Rattle.extent_rules.specs.Stretches.{first_word, highestEnd};
+ghost use Rattle.refusal_rules.specs.Rules.{first_fault};
+ghost use Rattle.extent_rules.specs.Stretches.{first_word, highest_end};
 ghost use Rattle.extent_rules.specs.Steps.{SlotsInside, GridAccepted};
-ghost use Rattle.grid_update_rules.specs.Updates.{nextFreeSet, deleteRules, lowestEmpty, addRules, gridBytes};
-ghost use Rattle.grid_update_rules.specs.Steps.{stretchSays, deleteStep, refusedPlan, addPlan, additionSays, addStep, Ready};
+ghost use Rattle.grid_update_rules.specs.Updates.{next_free_set, delete_rules, lowest_empty, add_rules, grid_bytes};
+ghost use Rattle.grid_update_rules.specs.Steps.{stretch_says, delete_step, refused_plan, add_plan, addition_says, add_step, Ready};
 
 use endian_rules::Order;
 use endian_steps::{read_word, write_number, write_signed};
@@ -27,8 +27,8 @@ use refusal_rules::{
 // Sets the next free word to the end of the highest grid, or to 12 + n where there is none. The directory must be inside the file, and each grid, and the end must
 // be a signed word.
 fn set_next_free(file: &mut [u8], order: Order)
-    requires { SlotsInside (length file.old) (word_at order file.old) × (highestEnd (word_at order file.old) (first_word (word_at order file.old)) (word_at order file.old 10) < 2147483648) }
-    ensures { file.new ≡ nextFreeSet order file.old }
+    requires { SlotsInside (length file.old) (word_at order file.old) × (highest_end (word_at order file.old) (first_word (word_at order file.old)) (word_at order file.old 10) < 2147483648) }
+    ensures { file.new ≡ next_free_set order file.old }
 {
     let n = read_word(order, file, 10) as usize;
     let end = highest_end(file, order);
@@ -37,7 +37,7 @@ fn set_next_free(file: &mut [u8], order: Order)
 
 // What the rules of deleting a grid say.
 fn delete_verdict(file: &[u8], order: Order, number: u32, size: usize) -> Verdict
-    ensures { result ≡ firstFault (deleteRules order file.now number size) }
+    ensures { result ≡ first_fault (delete_rules order file.now number size) }
 {
     match file_verdict(file, order) {
         Verdict::Fault(refusal) => Verdict::Fault(refusal),
@@ -57,7 +57,7 @@ fn delete_verdict(file: &[u8], order: Order, number: u32, size: usize) -> Verdic
 
 // Deletes the grid of a number, with a table of `size` pairs. Refused as `grid_updates::delete`.
 pub fn delete_in(file: &mut [u8], order: Order, number: u32, size: usize) -> StretchStep
-    ensures { (stretchSays result, file.new) ≡ deleteStep order file.old number size }
+    ensures { (stretch_says result, file.new) ≡ delete_step order file.old number size }
 {
     match delete_verdict(file, order, number, size) {
         Verdict::Fault(refusal) => StretchStep {
@@ -80,7 +80,7 @@ pub fn delete_in(file: &mut [u8], order: Order, number: u32, size: usize) -> Str
 // The lowest-numbered empty slot, counted from 0; n where there is none.
 fn lowest_empty(file: &[u8], order: Order) -> usize
     requires { GridAccepted order file.now }
-    ensures { result ≡ lowestEmpty (word_at order file.now) }
+    ensures { result ≡ lowest_empty (word_at order file.now) }
 {
     let n = read_word(order, file, 10) as usize;
     let mut k = 0;
@@ -104,7 +104,7 @@ fn add_verdict(
     size: usize,
 ) -> Verdict
     requires { GridAccepted order file.now }
-    ensures { result ≡ firstFault (addRules order file.now headers rows columns values size) }
+    ensures { result ≡ first_fault (add_rules order file.now headers rows columns values size) }
 {
     let n = read_word(order, file, 10) as usize;
     let points = rows as usize * columns as usize;
@@ -121,7 +121,7 @@ fn add_verdict(
 
 // The plan of an addition that was refused.
 fn refused_plan(refusal: Refusal) -> AddPlan
-    ensures { result ≡ refusedPlan refusal }
+    ensures { result ≡ refused_plan refusal }
 {
     AddPlan {
         verdict: Verdict::Fault(refusal),
@@ -145,7 +145,7 @@ pub fn plan_add(
     values: usize,
     size: usize,
 ) -> AddPlan
-    ensures { result ≡ addPlan order file.now headers rows columns values size }
+    ensures { result ≡ add_plan order file.now headers rows columns values size }
 {
     match file_verdict(file, order) {
         Verdict::Fault(refusal) => refused_plan(refusal),
@@ -207,7 +207,7 @@ fn write_grid(
     at: usize,
 )
     requires { (length header.now ≡ 256) × ((length values.now ≡ rows * columns) × ((rows * columns < 2147483648) × (4 * (at + 64 + rows * columns) ≤ length file.old))) }
-    ensures { file.new ≡ sets file.old (4 * at) (gridBytes order header.now rows columns values.now) }
+    ensures { file.new ≡ sets file.old (4 * at) (grid_bytes order header.now rows columns values.now) }
 {
     let size = rows as usize * columns as usize;
     write_number(order, 4, file, 4 * at, size as u32);
@@ -232,7 +232,7 @@ pub fn add_at(
     found: Extent,
 ) -> AdditionStep
     requires { Ready order file.old header.now rows columns values.now size plan found }
-    ensures { (additionSays result, file.new) ≡ addStep order file.old header.now rows columns values.now size }
+    ensures { (addition_says result, file.new) ≡ add_step order file.old header.now rows columns values.now size }
 {
     let verdict = plan.verdict;
     match verdict {

@@ -29,10 +29,10 @@ use denote.Steps.{only}
 use denote.Triple.Statement.{Contract, Triple}
 use Rattle.endian_rules.specs.declared.Order.{Order}
 use Rattle.endian_rules.specs.contracts.Order as O
-use Rattle.extent_rules.specs.Steps.{GridAccepted, runsOver}
+use Rattle.extent_rules.specs.Steps.{GridAccepted, runs_over}
 use Rattle.extent_rules.specs.declared.Extent.{Extent}
 use Rattle.extent_rules.specs.contracts.Extent as X
-use Rattle.extent_table_steps.proofs.Extents.{order_value, an-order}
+use Rattle.extent_table_steps.proofs.Extents.{order-value, an_order}
 use Rattle.extent_table_steps.specs.contracts.fill as fill
 use Rattle.extent_table_steps.proofs.fill.Symbol.{name as #fill}
 use Rattle.walks.proofs.Calls.{Yields}
@@ -59,14 +59,14 @@ module _ (ℓ ℓ' : Lifetime) (κ κ' : Lft) (q q' : Share) (table : Bor (List 
     -- n places are filled, and the file is one from which they can be
     open 𝓛 use {H}
 
-    pub fills : Triple 𝓤 (C #fill) (Filling 𝓛 mem runs) → Is O.the_row o (order_value o ∷ []) → Is usize n (vint w64 n ∷ [])
+    pub fills : Triple 𝓤 (C #fill) (Filling 𝓛 mem runs) → Is O.the_row o (order-value o ∷ []) → Is usize n (vint w64 n ∷ [])
         → (n ≤ length t) × (0 < n → GridAccepted o f)
         → ent 𝓤 (⋆ 𝓛 (‵ (Table t) ∷ ‵ (File f) ∷ []))
-        (H.⇛ (C #fill (tv ∷ fv ∷ order_value o ∷ vint w64 n ∷ []) (Yields 𝓤 H Nothing
-        (λ _. ex 𝓤 (λ (zs : List Extent). guard 𝓤 (zs ≡ runsOver o f n t) (sep 𝓤 (sem 𝓛 (Table zs)) (sem 𝓛 (File f))))))))
+        (H.⇛ (C #fill (tv ∷ fv ∷ order-value o ∷ vint w64 n ∷ []) (Yields 𝓤 H Nothing
+        (λ _. ex 𝓤 (λ (zs : List Extent). guard 𝓤 (zs ≡ runs_over o f n t) (sep 𝓤 (sem 𝓛 (Table zs)) (sem 𝓛 (File f))))))))
     fills known order_is count-is within = lends_both X.the_row u8 ℓ ℓ' κ κ' q q' table file tv fv 𝓛 C fm t f
-        (an-order ∷ number w64 ∷ []) Nothing (fill.clauses 𝓛 mem runs) (λ _. (o, (n, tt))) #fill known (order_value o ∷ vint w64 n ∷ []) (λ _. refl)
-        (λ _. (order_is, (count-is, tt))) (λ ν μ δ ε. tt) (λ ν μ δ ε. fact_i 𝓤 _ (emp 𝓤) within) (λ r zs. zs ≡ runsOver o f n t) (λ ν μ δ ε r e. id⊢ 𝓤 _)
+        (an_order ∷ number w64 ∷ []) Nothing (fill.clauses 𝓛 mem runs) (λ _. (o, (n, tt))) #fill known (order-value o ∷ vint w64 n ∷ []) (λ _. refl)
+        (λ _. (order_is, (count-is, tt))) (λ ν μ δ ε. tt) (λ ν μ δ ε. fact_i 𝓤 _ (emp 𝓤) within) (λ r zs. zs ≡ runs_over o f n t) (λ ν μ δ ε r e. id⊢ 𝓤 _)
 
 module _ (ℓ : Lifetime) (κ κ' : Lft) (q q' : Share) (table : Bor (List Extent)) (file : Bor (List ℕ)) (tv : Val) where
   -- the table, as it is held
@@ -78,11 +78,11 @@ module _ (ℓ : Lifetime) (κ κ' : Lft) (q q' : Share) (table : Bor (List Exten
     -- n places are filled, and the file is one from which they can be
     open 𝓛 use {H}
 
-    pub fills-from : Triple 𝓤 (C #fill) (Filling 𝓛 mem runs) → Is O.the_row o (order_value o ∷ []) → Is usize n (vint w64 n ∷ [])
+    pub fills_from : Triple 𝓤 (C #fill) (Filling 𝓛 mem runs) → Is O.the_row o (order-value o ∷ []) → Is usize n (vint w64 n ∷ [])
         → (n ≤ length t) × (0 < n → GridAccepted o file.now)
         → ent 𝓤 (⋆ 𝓛 (‵ (Kept t) ∷ raw (toks 𝓛 1 (κ', tt) (q', tt)) ∷ raw (sem 𝓛 (PassedOn X.the_row u8 ℓ κ κ' q q' table file tv)) ∷ []))
-        (H.⇛ (C #fill (tv ∷ only (shr_slice_vals file) ∷ order_value o ∷ vint w64 n ∷ []) (Yields 𝓤 H Nothing
-        (λ _. ex 𝓤 (λ (zs : List Extent). guard 𝓤 (zs ≡ runsOver o file.now n t) (sep 𝓤 (sem 𝓛 (Kept zs)) (toks 𝓛 1 (κ', tt) (q', tt))))))))
-    fills-from known order_is count-is within = lends-past X.the_row u8 ℓ κ κ' q q' table file tv 𝓛 C fm t
-        (an-order ∷ number w64 ∷ []) Nothing (fill.clauses 𝓛 mem runs) (λ _. (o, (n, tt))) #fill known (order_value o ∷ vint w64 n ∷ []) (λ _. refl)
-        (λ _. (order_is, (count-is, tt))) (λ ν δ. tt) (λ ν δ. fact_i 𝓤 _ (emp 𝓤) within) (λ r zs. zs ≡ runsOver o file.now n t) (λ ν δ r e. id⊢ 𝓤 _)
+        (H.⇛ (C #fill (tv ∷ only (shr_slice_vals file) ∷ order-value o ∷ vint w64 n ∷ []) (Yields 𝓤 H Nothing
+        (λ _. ex 𝓤 (λ (zs : List Extent). guard 𝓤 (zs ≡ runs_over o file.now n t) (sep 𝓤 (sem 𝓛 (Kept zs)) (toks 𝓛 1 (κ', tt) (q', tt))))))))
+    fills_from known order_is count-is within = lends-past X.the_row u8 ℓ κ κ' q q' table file tv 𝓛 C fm t
+        (an_order ∷ number w64 ∷ []) Nothing (fill.clauses 𝓛 mem runs) (λ _. (o, (n, tt))) #fill known (order-value o ∷ vint w64 n ∷ []) (λ _. refl)
+        (λ _. (order_is, (count-is, tt))) (λ ν δ. tt) (λ ν δ. fact_i 𝓤 _ (emp 𝓤) within) (λ r zs. zs ≡ runs_over o file.now n t) (λ ν δ r e. id⊢ 𝓤 _)

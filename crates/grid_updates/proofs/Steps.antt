@@ -23,15 +23,15 @@ abbrev pub step_value : StretchStep → Val
 step_value = LL.val D.the_type D'.the_laws
 
 -- it can only be that
-abbrev pub step-tells : Tells D.the_row (Is D.the_row) (λ d. step_value d ∷ [])
-step-tells = LL.tells D.the_type D'.the_laws
+abbrev pub step_tells : Tells D.the_row (Is D.the_row) (λ d. step_value d ∷ [])
+step_tells = LL.tells D.the_type D'.the_laws
 
 -- the machine value of an answer
 abbrev pub answer-value : SizeAnswer → Val
 answer-value = EL.val S.the_type S'.the_laws
 
 -- the relations of a step's parts
-pub step-parts : (d : StretchStep) (w : Val) → Is D.the_row d (w ∷ [])
+pub step_parts : (d : StretchStep) (w : Val) → Is D.the_row d (w ∷ [])
     → Is S.the_row d.answer (answer-value d.answer ∷ []) × (Is usize d.count (vint w64 d.count ∷ []) × Unit {0})
-step-parts d w is =
+step_parts d w is =
     LL.owed D.the_type D'.the_laws d (step_value d ∷ []) (at_value D.the_row (LL.vals D.the_type D'.the_laws) (LL.tells D.the_type D'.the_laws) d (w ∷ []) is)

@@ -1,9 +1,9 @@
 // The free stretches of a file, the longest runs of words that no grid has; deleting a grid and adding one, with the room of deleted grids used again. The calls
 // take the file and its byte order, and no layout; after each, a lent table holds the free stretches of the file in address order.
 ghost use Rattle.std.specs.Prelude.{◌≡◌};
-ghost use Rattle.refusal_rules.specs.Answers.{sizeSays};
-ghost use Rattle.grid_update_rules.specs.Steps.{stretchSays, tellStep};
-ghost use Rattle.grid_update_rules.specs.Updates.{tellStretches, deleteGrid, addSays, addGrid};
+ghost use Rattle.refusal_rules.specs.Answers.{size_says};
+ghost use Rattle.grid_update_rules.specs.Steps.{stretch_says, tell_step};
+ghost use Rattle.grid_update_rules.specs.Updates.{tell_stretches, delete_grid, add_says, add_grid};
 
 use endian_rules::Order;
 use endian_steps::read_word;
@@ -18,7 +18,7 @@ use refusal_rules::{SHORT_OUTPUT, SizeAnswer, Verdict};
 
 // Counts the free stretches of a file, for a table of `size` pairs. Refused as `free_stretches`.
 fn count_stretches(file: &[u8], order: Order, size: usize) -> StretchStep
-    ensures { stretchSays result ≡ tellStep order file.now size }
+    ensures { stretch_says result ≡ tell_step order file.now size }
 {
     match file_verdict(file, order) {
         Verdict::Fault(refusal) => StretchStep {
@@ -49,7 +49,7 @@ fn count_stretches(file: &[u8], order: Order, size: usize) -> StretchStep
 //
 // Refused by the first fault of the whole file, 1 to 5; then with 10 where the table has fewer than n + 1 places. A refusal leaves the table as it was.
 pub fn free_stretches(file: &[u8], order: Order, table: &mut [Extent]) -> SizeAnswer
-    ensures { (sizeSays result, table.new) ≡ tellStretches order file.now table.old }
+    ensures { (size_says result, table.new) ≡ tell_stretches order file.now table.old }
 {
     let step = count_stretches(file, order, table.len());
     fill(table, file, order, step.count);
@@ -62,7 +62,7 @@ pub fn free_stretches(file: &[u8], order: Order, table: &mut [Extent]) -> SizeAn
 // Refused by the first fault of the whole file, 1 to 5; then with 10 where the table has fewer than n + 1 places, 7 where there is no such grid, 6 where its slot
 // is empty. A refusal leaves the file and the table as they were.
 pub fn delete(file: &mut [u8], order: Order, number: u32, table: &mut [Extent]) -> SizeAnswer
-    ensures { (sizeSays result, (file.new, table.new)) ≡ deleteGrid order file.old number table.old }
+    ensures { (size_says result, (file.new, table.new)) ≡ delete_grid order file.old number table.old }
 {
     let change = delete_in(file, order, number, table.len());
     fill(table, file, order, change.count);
@@ -86,7 +86,7 @@ pub fn add(
     values: &[i32],
     table: &mut [Extent],
 ) -> AddAnswer
-    ensures { (addSays result, (file.new, table.new)) ≡ addGrid order file.old header.now rows columns values.now table.old }
+    ensures { (add_says result, (file.new, table.new)) ≡ add_grid order file.old header.now rows columns values.now table.old }
 {
     let plan = plan_add(
         file,

@@ -40,17 +40,17 @@ use denote.Lend.{Held, lends_slice, slice_back}
 use denote.Signature.{plain}
 use denote.Steps.{only, peeks, owned}
 use denote.Struct.Laws as LL
-use Rattle.extent_rules.specs.Stretches.{noWords}
+use Rattle.extent_rules.specs.Stretches.{no_words}
 use Rattle.extent_rules.specs.declared.Extent.{Extent}
 use Rattle.extent_rules.specs.contracts.Extent as X
 use Rattle.extent_rules.proofs.Extent.TheLaws as X'
-use Rattle.extent_table_steps.proofs.Extents.{extent-value, extent-values, extent-tells, lawful, makes}
+use Rattle.extent_table_steps.proofs.Extents.{extent-value, extent_values, extent_tells, lawful, makes}
 use Rattle.walks.proofs.Known.{Known}
 
 -- the relation of `[x; n]`, by the element
-each-repeats : (R : RattleType) (x : R.Denot) (u : Val) → Is R x (u ∷ []) → (n : ℕ) → shadow (each R.Denot R.own_val (replicate n x) (replicate n u))
-each-repeats R x u is zero = tt
-each-repeats R x u is (suc n) = (is, each-repeats R x u is n)
+each_repeats : (R : RattleType) (x : R.Denot) (u : Val) → Is R x (u ∷ []) → (n : ℕ) → shadow (each R.Denot R.own_val (replicate n x) (replicate n u))
+each_repeats R x u is zero = tt
+each_repeats R x u is (suc n) = (is, each_repeats R x u is n)
 
 -- ---- tables that can be lent
 abbrev pub OwnTable : ℕ → RattleType
@@ -64,53 +64,53 @@ pub record Lendable (places : ℕ) : Type 0 where
   pub is : Is (OwnTable places) start (value ∷ [])
 
 -- a table of so many places that is given
-abbrev pub given-table : (places : ℕ) → Room X.the_row places → (ys : List Extent) → Is (OwnTable places) ys (array_vals extent-values ys) → Lendable places
-given-table places room ys is = record { room = room; start = ys; value = only (array_vals extent-values ys); is = is }
+abbrev pub given_table : (places : ℕ) → Room X.the_row places → (ys : List Extent) → Is (OwnTable places) ys (array_vals extent_values ys) → Lendable places
+given_table places room ys is = record { room = room; start = ys; value = only (array_vals extent_values ys); is = is }
 
 -- there is room for four
-pub short-room : Room X.the_row 4
-short-room = (omega arith, omega arith)
+pub short_room : Room X.the_row 4
+short_room = (omega arith, omega arith)
 
 -- the type of such a parameter
-abbrev pub a-table : {n : ℕ} → ℕ → Known n
-a-table places = record {
+abbrev pub a_table : {n : ℕ} → ℕ → Known n
+a_table places = record {
   slot = ArrayOf (plain (λ _. X.the_row)) (λ _. tt) places;
-  vals = λ κs. array_vals extent-values;
-  tell = λ κs. Array-Tells X.the_row extent-values extent-tells places;
+  vals = λ κs. array_vals extent_values;
+  tell = λ κs. Array-Tells X.the_row extent_values extent_tells places;
   lawful = λ 𝓛 κs. Array-Lawful 𝓛 X.the_row (lawful 𝓛) places;
 }
 
 -- ---- a table of 1,025 places without words
-abbrev none-val : Val
-none-val = extent-value noWords
+abbrev none_val : Val
+none_val = extent-value no_words
 
-pub none_is : Is X.the_row noWords (none-val ∷ [])
-none_is = LL.owes X.the_type X'.the_laws noWords ((refl, omega arith), ((refl, omega arith), tt))
+pub none_is : Is X.the_row no_words (none_val ∷ [])
+none_is = LL.owes X.the_type X'.the_laws no_words ((refl, omega arith), ((refl, omega arith), tt))
 
-pub fresh-room : Room X.the_row 1025
-fresh-room = (omega arith, omega arith)
+pub fresh_room : Room X.the_row 1025
+fresh_room = (omega arith, omega arith)
 
-pub fresh-is : Is (OwnTable 1025) (replicate 1025 noWords) (array_val (replicate 1025 none-val) ∷ [])
-fresh-is = (replicate 1025 none-val, ((refl, length-replicate 1025 noWords), each-repeats X.the_row noWords none-val none_is 1025))
+pub fresh_is : Is (OwnTable 1025) (replicate 1025 no_words) (array_val (replicate 1025 none_val) ∷ [])
+fresh_is = (replicate 1025 none_val, ((refl, length-replicate 1025 no_words), each_repeats X.the_row no_words none_val none_is 1025))
 
-abbrev pub fresh-table : Lendable 1025
-fresh-table = record { room = fresh-room; start = replicate 1025 noWords; value = array_val (replicate 1025 none-val); is = fresh-is }
+abbrev pub fresh_table : Lendable 1025
+fresh_table = record { room = fresh_room; start = replicate 1025 no_words; value = array_val (replicate 1025 none_val); is = fresh_is }
 
 -- ---- a table as a field of a struct has it
 abbrev F : RattleType
 F = (X.the_field).row
 
-each-field : (ys : List Extent) (us : List Val) → shadow (each Extent (X.the_row).own_val ys us) → shadow (each F.Denot F.own_val (map (X.the_field).into ys) us)
-each-field [] [] s = s
-each-field [] (u ∷ us) s = s
-each-field (y ∷ ys) [] s = s
-each-field (y ∷ ys) (u ∷ us) s = (s.0, each-field ys us s.1)
+each_field : (ys : List Extent) (us : List Val) → shadow (each Extent (X.the_row).own_val ys us) → shadow (each F.Denot F.own_val (map (X.the_field).into ys) us)
+each_field [] [] s = s
+each_field [] (u ∷ us) s = s
+each_field (y ∷ ys) [] s = s
+each_field (y ∷ ys) (u ∷ us) s = (s.0, each_field ys us s.1)
 
 abbrev pub AsField : ℕ → List Extent → Val → Type 0
 AsField places ys v = Is (Array F places) (map (X.the_field).into ys) (v ∷ [])
 
-as-field : (places : ℕ) (ys : List Extent) (v : Val) → Is (OwnTable places) ys (v ∷ []) → AsField places ys v
-as-field places ys v p = (p.0, ((p.1.0.0, length-map ys (X.the_field).into ∙ p.1.0.1), each-field ys p.0 p.1.1))
+as_field : (places : ℕ) (ys : List Extent) (v : Val) → Is (OwnTable places) ys (v ∷ []) → AsField places ys v
+as_field places ys v p = (p.0, ((p.1.0.0, length-map ys (X.the_field).into ∙ p.1.0.1), each_field ys p.0 p.1.1))
 
 abbrev pub IsTable : ℕ → List Extent → Val → Type 0
 IsTable places ys v = Is (OwnTable places) ys (v ∷ []) × AsField places ys v
@@ -125,16 +125,16 @@ abbrev pub τ : ℕ → Ty
 module _ {M : Type 1} {𝓤 : Ura M} (𝓛 : Logic 𝓤) (places : ℕ) where
   open 𝓛 use {H, A}
 
-  pub table-typed : (ys : List Extent) (v : Val) → Is (OwnTable places) ys (v ∷ []) → Typed (OwnTable places).mir (v ∷ [])
-  table-typed ys v = (Array-Lawful 𝓛 X.the_row (lawful 𝓛) places).typed ys (v ∷ [])
+  pub table_typed : (ys : List Extent) (v : Val) → Is (OwnTable places) ys (v ∷ []) → Typed (OwnTable places).mir (v ∷ [])
+  table_typed ys v = (Array-Lawful 𝓛 X.the_row (lawful 𝓛) places).typed ys (v ∷ [])
 
   module _ (t : Lendable places) (b : ℕ) where
     abbrev pub LentTable : Lifetime → Lft → GName → SProp 𝓤
     LentTable ℓ κ γ = sep 𝓤 (sem 𝓛 ((MutSlice ℓ κ X.the_row).own_val (lent_at b γ t.start) (slice_val (b, 0) places ∷ []))) (A.lent κ (Held X.the_row places b 0 γ))
 
-    pub lends-table : (ℓ : Lifetime) (κ : Lft) → ent 𝓤 (H.at full_share (τ places) b 0 t.value) (H.⇛ (ex 𝓤 (LentTable ℓ κ)))
+    pub lends_table : (ℓ : Lifetime) (κ : Lft) → ent 𝓤 (H.at full_share (τ places) b 0 t.value) (H.⇛ (ex 𝓤 (LentTable ℓ κ)))
     unfolding part_of
-    lends-table ℓ κ =
+    lends_table ℓ κ =
         qed 𝓛 (‵ (fat full_share (τ places) b 0 t.value) ∷ []) ∵ updating ! $
         use1 𝓛 (‵ (cell_at full_share ((τ places) ∷ []) (t.value ∷ []) b 0)) (𝓛.laws.at_raw full_share (τ places) b 0 t.value) $
         owned ! (OwnTable places) (Is (OwnTable places)) (Array-Makes 𝓛 X.the_row (makes 𝓛) places) t.start _ t.is $ move ! (1 ∷ 0 ∷ []) $ fjoin ! $
@@ -152,10 +152,10 @@ module _ {M : Type 1} {𝓤 : Ura M} (𝓛 : Logic 𝓤) (places : ℕ) where
     abbrev pub Taken : List Extent → List Val → SProp 𝓤
     Taken ys us = guard 𝓤 (IsTable places ys (array_val us)) (H.at full_share (τ places) b 0 (array_val us))
 
-    pub takes-table : (κ : Lft) (γ : GName) (ys : List Extent)
+    pub takes_table : (κ : Lft) (γ : GName) (ys : List Extent)
         → ent 𝓤 (sep 𝓤 (A.dead κ) (sep 𝓤 (A.lent κ (Held X.the_row places b 0 γ)) (sem 𝓛 (finally X.the_row γ ys)))) (H.⇛ (ex 𝓤 (Taken ys)))
     unfolding part_of
-    takes-table κ γ ys =
+    takes_table κ γ ys =
         qed 𝓛 (‵ (fdead κ) ∷ ‵ (flent κ (Held X.the_row places b 0 γ)) ∷ ‵ (finally X.the_row γ ys) ∷ []) ∵ updating ! $
         use3 𝓛 (later (‵ ((Arr (mem X.the_row) places).own_at ys b 0))) (slice_back 𝓛 X.the_row κ γ ys places b 0) $ await ! tt $ fsplit ! $ move ! (1 ∷ []) $
         use1 𝓛 (‵ (row X.the_row full_share ys b 0)) (whole_out 𝓛 X.the_row ys b 0) $ move ! (1 ∷ 0 ∷ []) $ fjoin ! $
@@ -165,4 +165,4 @@ module _ {M : Type 1} {𝓤 : Ura M} (𝓛 : Logic 𝓤) (places : ℕ) where
         let v : Val = array_val is.0 in
         let is-v : Is (OwnTable places) ys (v ∷ []) = subst (Is (OwnTable places) ys) is.1.0.0 is in
         rewrite ! 0 (λ (us : List Val). ‵ (cell_at full_share ((τ places) ∷ []) us b 0)) is.1.0.0 refl $
-        use1 𝓛 (‵ (fat full_share (τ places) b 0 v)) (𝓛.laws.raw_at full_share (τ places) b 0 v) $ at_once ! $ show ! (Taken ys) is.0 $ check ! (is-v, as-field places ys v is-v) $ done !))
+        use1 𝓛 (‵ (fat full_share (τ places) b 0 v)) (𝓛.laws.raw_at full_share (τ places) b 0 v) $ at_once ! $ show ! (Taken ys) is.0 $ check ! (is-v, as_field places ys v is-v) $ done !))

@@ -30,39 +30,39 @@ use Rattle.grid_updates_by_value.proofs.Calls.{pair, HandedBack}
 use Rattle.grid_updates_by_value.proofs.Lent.{AsField}
 
 -- the enum N is what is answered, and T the struct of that and of a table
-abbrev pub hands-back : (places : ℕ) (N : E.Declared) → EL.Laws N → Few (E.shape N) → (T : S.Declared) → LL.Laws T → Plains (S.fields T)
+abbrev pub hands_back : (places : ℕ) (N : E.Declared) → EL.Laws N → Few (E.shape N) → (T : S.Declared) → LL.Laws T → Plains (S.fields T)
     → (make : (E.row N).Denot → List Extent → (S.row T).Denot)
     → ((r : (E.row N).Denot) (ys : List Extent) (w v : Val) → Is (E.row N) r (w ∷ []) → AsField places ys v → Is (S.row T) (make r ys) (pair w v ∷ [])) → HandedBack places
-hands-back places N L few T K plain-parts make made = record {
+hands_back places N L few T K plain-parts make made = record {
   answer = E.row N;
   both = S.row T;
   make = make;
   made = made;
-  answer-lawful = λ 𝓛. EL.lawful N L 𝓛 few;
-  both-lawful = λ 𝓛. LL.lawful T K 𝓛;
-  both-makes = λ 𝓛. LL.makes T plain-parts 𝓛;
+  answer_lawful = λ 𝓛. EL.lawful N L 𝓛 few;
+  both_lawful = λ 𝓛. LL.lawful T K 𝓛;
+  both_makes = λ 𝓛. LL.makes T plain-parts 𝓛;
 }
 
 -- what deleting and telling the free stretches answer, and a table of 1,025 places
-abbrev pub stretch-table : HandedBack 1025
-stretch-table =
-    hands-back 1025 Size.the_type Size'.the_laws tt T.the_type T'.the_laws T'.the_plain (λ r ys. record { answer = r; table = ys })
+abbrev pub stretch_table : HandedBack 1025
+stretch_table =
+    hands_back 1025 Size.the_type Size'.the_laws tt T.the_type T'.the_laws T'.the_plain (λ r ys. record { answer = r; table = ys })
     (λ r ys w v is has. ((w ∷ [], (v ∷ [], tt)), (refl, (is, (has, tt)))))
 
 -- what adding answers, and such a table
 abbrev pub addition : HandedBack 1025
 addition =
-    hands-back 1025 Add.the_type Add'.the_laws tt D.the_type D'.the_laws D'.the_plain (λ r ys. record { answer = r; table = ys })
+    hands_back 1025 Add.the_type Add'.the_laws tt D.the_type D'.the_laws D'.the_plain (λ r ys. record { answer = r; table = ys })
     (λ r ys w v is has. ((w ∷ [], (v ∷ [], tt)), (refl, (is, (has, tt)))))
 
 -- what deleting answers, and a table of four places
-abbrev pub short-stretch-table : HandedBack 4
-short-stretch-table =
-    hands-back 4 Size.the_type Size'.the_laws tt ShortT.the_type ShortT'.the_laws ShortT'.the_plain (λ r ys. record { answer = r; table = ys })
+abbrev pub short_stretch_table : HandedBack 4
+short_stretch_table =
+    hands_back 4 Size.the_type Size'.the_laws tt ShortT.the_type ShortT'.the_laws ShortT'.the_plain (λ r ys. record { answer = r; table = ys })
     (λ r ys w v is has. ((w ∷ [], (v ∷ [], tt)), (refl, (is, (has, tt)))))
 
 -- what adding answers, and such a table
-abbrev pub short-addition : HandedBack 4
-short-addition =
-    hands-back 4 Add.the_type Add'.the_laws tt ShortD.the_type ShortD'.the_laws ShortD'.the_plain (λ r ys. record { answer = r; table = ys })
+abbrev pub short_addition : HandedBack 4
+short_addition =
+    hands_back 4 Add.the_type Add'.the_laws tt ShortD.the_type ShortD'.the_laws ShortD'.the_plain (λ r ys. record { answer = r; table = ys })
     (λ r ys w v is has. ((w ∷ [], (v ∷ [], tt)), (refl, (is, (has, tt)))))

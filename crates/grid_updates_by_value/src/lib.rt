@@ -1,9 +1,9 @@
 // The free stretches of a file, deleting a grid and adding one, for a caller that cannot lend a table: each call has a table of its own, or is given one by value,
 // lends it to `grid_updates::free_stretches`, `grid_updates::delete` or `grid_updates::add`, and hands it back by value, with the answer.
 ghost use Rattle.std.specs.Prelude.{◌≡◌, replicate};
-ghost use Rattle.refusal_rules.specs.Answers.{sizeSays};
-ghost use Rattle.extent_rules.specs.Stretches.{noWords};
-ghost use Rattle.grid_update_rules.specs.Updates.{tellStretches, deleteGrid, addSays, addGrid};
+ghost use Rattle.refusal_rules.specs.Answers.{size_says};
+ghost use Rattle.extent_rules.specs.Stretches.{no_words};
+ghost use Rattle.grid_update_rules.specs.Updates.{tell_stretches, delete_grid, add_says, add_grid};
 
 use endian_rules::Order;
 use extent_rules::Extent;
@@ -49,7 +49,7 @@ pub struct ShortAddition {
 // Tells the free stretches of a file, as `grid_updates::free_stretches` does with a table of so many places of start 0 and length 0. It is never refused for the
 // length of the table.
 pub fn free_stretches_with_table(file: &[u8], order: Order) -> StretchTable
-    ensures { (sizeSays result.answer, result.table) ≡ tellStretches order file.now (replicate 1025 noWords) }
+    ensures { (size_says result.answer, result.table) ≡ tell_stretches order file.now (replicate 1025 no_words) }
 {
     let mut table = [Extent {
         start: 0,
@@ -62,7 +62,7 @@ pub fn free_stretches_with_table(file: &[u8], order: Order) -> StretchTable
 // Deletes the grid of a number, counted from 1, as `grid_updates::delete` does with a table of so many places of start 0 and length 0. It is never refused for
 // the length of the table.
 pub fn delete_with_table(file: &mut [u8], order: Order, number: u32) -> StretchTable
-    ensures { (sizeSays result.answer, (file.new, result.table)) ≡ deleteGrid order file.old number (replicate 1025 noWords) }
+    ensures { (size_says result.answer, (file.new, result.table)) ≡ delete_grid order file.old number (replicate 1025 no_words) }
 {
     let mut table = [Extent {
         start: 0,
@@ -82,7 +82,7 @@ pub fn add_with_table(
     columns: u32,
     values: &[i32],
 ) -> Addition
-    ensures { (addSays result.answer, (file.new, result.table)) ≡ addGrid order file.old header.now rows columns values.now (replicate 1025 noWords) }
+    ensures { (add_says result.answer, (file.new, result.table)) ≡ add_grid order file.old header.now rows columns values.now (replicate 1025 no_words) }
 {
     let mut table = [Extent {
         start: 0,
@@ -99,7 +99,7 @@ pub fn delete_with_short_table(
     number: u32,
     mut table: [Extent; SHORT_PLACES],
 ) -> ShortStretchTable
-    ensures { (sizeSays result.answer, (file.new, result.table)) ≡ deleteGrid order file.old number table }
+    ensures { (size_says result.answer, (file.new, result.table)) ≡ delete_grid order file.old number table }
 {
     let answer = grid_updates::delete(file, order, number, &mut table);
     ShortStretchTable { answer, table }
@@ -115,7 +115,7 @@ pub fn add_with_short_table(
     values: &[i32],
     mut table: [Extent; SHORT_PLACES],
 ) -> ShortAddition
-    ensures { (addSays result.answer, (file.new, result.table)) ≡ addGrid order file.old header.now rows columns values.now table }
+    ensures { (add_says result.answer, (file.new, result.table)) ≡ add_grid order file.old header.now rows columns values.now table }
 {
     let answer = grid_updates::add(file, order, header, rows, columns, values, &mut table);
     ShortAddition { answer, table }

@@ -1,10 +1,10 @@
 // A layout of any kind: opening a file by its kind, and whether a layout is stale.
 ghost use Rattle.std.specs.Prelude.{◌≡◌};
 ghost use Rattle.refusal_rules.specs.Answers.{mapped};
-ghost use Rattle.area_rules.specs.Opening.{openArea, areaSays};
-ghost use Rattle.grid_rules.specs.Opening.{openGrid, gridSays};
-ghost use Rattle.md_rules.specs.Opening.{openMd, mdSays};
-ghost use Rattle.layout_rules.specs.Layouts.{openingSays, layoutOrder, givesThat, isFresh};
+ghost use Rattle.area_rules.specs.Opening.{open_area, area_says};
+ghost use Rattle.grid_rules.specs.Opening.{open_grid, grid_says};
+ghost use Rattle.md_rules.specs.Opening.{open_md, md_says};
+ghost use Rattle.layout_rules.specs.Layouts.{opening_says, layout_order, gives_that, is_fresh};
 
 use area::same_area;
 use area_rules::{AreaLayout, AreaOpening};
@@ -17,7 +17,7 @@ use md_rules::{MdLayout, MdOpening};
 
 // Opens an AREA file, which finds its byte order by itself. Refused as `area::open`.
 pub fn open_area(file: &[u8]) -> Opening
-    ensures { openingSays result ≡ mapped Layout.Area (openArea file.now) }
+    ensures { opening_says result ≡ mapped Layout.Area (open_area file.now) }
 {
     match area::open(file) {
         AreaOpening::Opened(layout) => Opening::Opened(Layout::Area(layout)),
@@ -27,7 +27,7 @@ pub fn open_area(file: &[u8]) -> Opening
 
 // Opens the grid of a number in a GRID file. Refused as `grid::open`.
 pub fn open_grid(file: &[u8], order: Order, number: u32) -> Opening
-    ensures { openingSays result ≡ mapped Layout.Grid (openGrid order file.now number) }
+    ensures { opening_says result ≡ mapped Layout.Grid (open_grid order file.now number) }
 {
     match grid::open(file, order, number) {
         GridOpening::Opened(layout) => Opening::Opened(Layout::Grid(layout)),
@@ -37,7 +37,7 @@ pub fn open_grid(file: &[u8], order: Order, number: u32) -> Opening
 
 // Opens an MD file. Refused as `md::open`.
 pub fn open_md(file: &[u8], order: Order) -> Opening
-    ensures { openingSays result ≡ mapped Layout.Md (openMd order file.now) }
+    ensures { opening_says result ≡ mapped Layout.Md (open_md order file.now) }
 {
     match md::open(file, order) {
         MdOpening::Opened(layout) => Opening::Opened(Layout::Md(layout)),
@@ -47,7 +47,7 @@ pub fn open_md(file: &[u8], order: Order) -> Opening
 
 // The byte order of a layout.
 pub fn order_of(layout: Layout) -> Order
-    ensures { result ≡ layoutOrder layout }
+    ensures { result ≡ layout_order layout }
 {
     match layout {
         Layout::Area(l) => l.order,
@@ -58,7 +58,7 @@ pub fn order_of(layout: Layout) -> Order
 
 // Whether what opening an AREA file answered is a layout, and this one.
 fn is_area(opening: AreaOpening, layout: AreaLayout) -> bool
-    ensures { result ≡ givesThat (Layout.Area layout) (mapped Layout.Area (areaSays opening)) }
+    ensures { result ≡ gives_that (Layout.Area layout) (mapped Layout.Area (area_says opening)) }
 {
     match opening {
         AreaOpening::Opened(found) => same_area(found, layout),
@@ -68,7 +68,7 @@ fn is_area(opening: AreaOpening, layout: AreaLayout) -> bool
 
 // Whether what opening a GRID file answered is a layout, and this one.
 fn is_grid(opening: GridOpening, layout: GridLayout) -> bool
-    ensures { result ≡ givesThat (Layout.Grid layout) (mapped Layout.Grid (gridSays opening)) }
+    ensures { result ≡ gives_that (Layout.Grid layout) (mapped Layout.Grid (grid_says opening)) }
 {
     match opening {
         GridOpening::Opened(found) => same_grid(found, layout),
@@ -78,7 +78,7 @@ fn is_grid(opening: GridOpening, layout: GridLayout) -> bool
 
 // Whether what opening an MD file answered is a layout, and this one.
 fn is_md(opening: MdOpening, layout: MdLayout) -> bool
-    ensures { result ≡ givesThat (Layout.Md layout) (mapped Layout.Md (mdSays opening)) }
+    ensures { result ≡ gives_that (Layout.Md layout) (mapped Layout.Md (md_says opening)) }
 {
     match opening {
         MdOpening::Opened(found) => same_md(found, layout),
@@ -89,7 +89,7 @@ fn is_md(opening: MdOpening, layout: MdLayout) -> bool
 // Whether opening these bytes by the layout's own kind, byte order and grid number gives that very layout, in every field, the file's length
 // too. A layout of which this is false is stale. Nothing is computed from a layout's fields before this.
 pub fn is_fresh(file: &[u8], layout: Layout) -> bool
-    ensures { result ≡ isFresh file.now layout }
+    ensures { result ≡ is_fresh file.now layout }
 {
     match layout {
         Layout::Area(l) => is_area(area::open(file), l),

@@ -22,7 +22,7 @@ fn list(name: &[u8]) {
     libc::close(descriptor);
 }
 
-// `little` is the file of 1,000 bytes in little order that listing_rules/specs/Worked gives as `littleFile`, `torn` the worked file P cut to 263 bytes,
+// `little` is the file of 1,000 bytes in little order that listing_rules/specs/Worked gives as `little_file`, `torn` the worked file P cut to 263 bytes,
 // `grid` the worked file G. `full` has 65,536 bytes, the most that are listed, in big order: NAV at 300, AUX at 1000, DATA at 4096 (50 lines of a prefix of
 // 200 bytes and 70 elements, each of 3 bands of 4 bytes), AUDIT of 5 cards behind it, and CAL at 60000. `too_long` has a byte more. In the listings of
 // `little` and of `full` no number stands twice, so that no two numbers can be exchanged unseen.

@@ -10,58 +10,58 @@ use lib.Seq.{drop-cons, drop-length, take-suc, take-suc-set, append_snoc}
 use borrow.Author.Tests.{lt-ltb}
 use Rattle.lists.specs.Lists.{list_of}
 use Rattle.listing_rules.specs.Page.{block_line, block_lines}
-use Rattle.listing_rules.specs.Steps.{emptyText, appendByte, appendBytes}
+use Rattle.listing_rules.specs.Steps.{empty_text, append_byte, append_bytes}
 use Rattle.listing_rules.specs.declared.Entry.{Entry}
 use Rattle.listing_rules.specs.declared.Text.{Text}
 
 -- ---- bytes one after another
 
 -- bytes behind other bytes
-pub append-more : (t : Text) (l m : List ℕ) → appendBytes t (l ++ m) ≡ appendBytes (appendBytes t l) m
-unfolding appendBytes
-append-more t [] m = refl
-append-more t (b ∷ l) m = append-more (appendByte t b) l m
+pub append_more : (t : Text) (l m : List ℕ) → append_bytes t (l ++ m) ≡ append_bytes (append_bytes t l) m
+unfolding append_bytes
+append_more t [] m = refl
+append_more t (b ∷ l) m = append_more (append_byte t b) l m
 
 -- a piece behind a text that has the pieces before it
-append-piece : {s : Text} (t : Text) (a b : List ℕ) → s ≡ appendBytes t a → appendBytes s b ≡ appendBytes t (a ++ b)
-append-piece t a b e = ap (λ x. appendBytes x b) e ∙ sym (append-more t a b)
+append_piece : {s : Text} (t : Text) (a b : List ℕ) → s ≡ append_bytes t a → append_bytes s b ≡ append_bytes t (a ++ b)
+append_piece t a b e = ap (λ x. append_bytes x b) e ∙ sym (append_more t a b)
 
 -- three pieces, one after another
-pub append-three : (t : Text) (a b c : List ℕ) → appendBytes (appendBytes (appendBytes t a) b) c ≡ appendBytes t (a ++ b ++ c)
-append-three t a b c = append-piece t (a ++ b) c (append-piece t a b refl)
+pub append_three : (t : Text) (a b c : List ℕ) → append_bytes (append_bytes (append_bytes t a) b) c ≡ append_bytes t (a ++ b ++ c)
+append_three t a b c = append_piece t (a ++ b) c (append_piece t a b refl)
 
 -- four
-pub append-four : (t : Text) (a b c d : List ℕ) → appendBytes (appendBytes (appendBytes (appendBytes t a) b) c) d ≡ appendBytes t (a ++ b ++ c ++ d)
-append-four t a b c d = append-piece t (a ++ b ++ c) d (append-three t a b c)
+pub append_four : (t : Text) (a b c d : List ℕ) → append_bytes (append_bytes (append_bytes (append_bytes t a) b) c) d ≡ append_bytes t (a ++ b ++ c ++ d)
+append_four t a b c d = append_piece t (a ++ b ++ c) d (append_three t a b c)
 
 -- seven
-pub append-seven : (t : Text) (a b c d e f g : List ℕ)
-    → appendBytes (appendBytes (appendBytes (appendBytes (appendBytes (appendBytes (appendBytes t a) b) c) d) e) f) g
-    ≡ appendBytes t (a ++ b ++ c ++ d ++ e ++ f ++ g)
-append-seven t a b c d e f g =
-    append-piece t (a ++ b ++ c ++ d ++ e ++ f) g
-    (append-piece t (a ++ b ++ c ++ d ++ e) f (append-piece t (a ++ b ++ c ++ d) e (append-four t a b c d)))
+pub append_seven : (t : Text) (a b c d e f g : List ℕ)
+    → append_bytes (append_bytes (append_bytes (append_bytes (append_bytes (append_bytes (append_bytes t a) b) c) d) e) f) g
+    ≡ append_bytes t (a ++ b ++ c ++ d ++ e ++ f ++ g)
+append_seven t a b c d e f g =
+    append_piece t (a ++ b ++ c ++ d ++ e ++ f) g
+    (append_piece t (a ++ b ++ c ++ d ++ e) f (append_piece t (a ++ b ++ c ++ d) e (append_four t a b c d)))
 
 -- the byte at an index and those behind it are those from the index on
-pub append-next : (t : Text) (l : List ℕ) (i d : ℕ) → i < length l → appendBytes (appendByte t (get_or l i d)) (drop (i + 1) l) ≡ appendBytes t (drop i l)
-unfolding appendBytes
+pub append-next : (t : Text) (l : List ℕ) (i d : ℕ) → i < length l → append_bytes (append_byte t (get_or l i d)) (drop (i + 1) l) ≡ append_bytes t (drop i l)
+unfolding append_bytes
 append-next t l i d h = rw (add-one i, drop-cons l i d h)
 
 -- behind the last byte there are none
-pub append-none : (t : Text) (l : List ℕ) (i : ℕ) → i ≡ length l → t ≡ appendBytes t (drop i l)
-unfolding appendBytes
+pub append-none : (t : Text) (l : List ℕ) (i : ℕ) → i ≡ length l → t ≡ append_bytes t (drop i l)
+unfolding append_bytes
 append-none t l i e = rw (e, drop-length l)
 
 -- the line of the block at an index and those of the blocks behind it are those from the index on
-pub append-block : (t : Text) (l : List Entry) (i : ℕ) (d : Entry) → i < length l
-    → appendBytes (appendBytes t (block_line (get_or l i d))) (block_lines (drop (i + 1) l)) ≡ appendBytes t (block_lines (drop i l))
+pub append_block : (t : Text) (l : List Entry) (i : ℕ) (d : Entry) → i < length l
+    → append_bytes (append_bytes t (block_line (get_or l i d))) (block_lines (drop (i + 1) l)) ≡ append_bytes t (block_lines (drop i l))
 unfolding block_lines
-append-block t l i d h = rw (add-one i, drop-cons l i d h) (sym (append-more t (block_line (get_or l i d)) (block_lines (drop (suc i) l))))
+append_block t l i d h = rw (add-one i, drop-cons l i d h) (sym (append_more t (block_line (get_or l i d)) (block_lines (drop (suc i) l))))
 
 -- behind the last block there are no lines
-pub append-no-block : (t : Text) (l : List Entry) (i : ℕ) → i ≡ length l → t ≡ appendBytes t (block_lines (drop i l))
-unfolding block_lines appendBytes
-append-no-block t l i e = rw (e, drop-length l)
+pub append_no_block : (t : Text) (l : List Entry) (i : ℕ) → i ≡ length l → t ≡ append_bytes t (block_lines (drop i l))
+unfolding block_lines append_bytes
+append_no_block t l i e = rw (e, drop-length l)
 
 -- ---- what a text has
 
@@ -72,14 +72,14 @@ pub record TextIs (t : Text) (l : List ℕ) : Type 0 where
   pub room : length t.bytes ≡ 512
 
 -- the empty text has none
-empty-is : TextIs emptyText []
-unfolding emptyText
-empty-is = record { count = refl; front = refl; room = length-replicate {A = ℕ} 512 0 }
+empty_is : TextIs empty_text []
+unfolding empty_text
+empty_is = record { count = refl; front = refl; room = length-replicate {A = ℕ} 512 0 }
 
 -- a byte more
-byte-is : (t : Text) (l : List ℕ) (b : ℕ) → TextIs t l → length l < 512 → TextIs (appendByte t b) (l ++ b ∷ [])
-unfolding appendByte
-byte-is t l b x h =
+byte_is : (t : Text) (l : List ℕ) (b : ℕ) → TextIs t l → length l < 512 → TextIs (append_byte t b) (l ++ b ∷ [])
+unfolding append_byte
+byte_is t l b x h =
     rw (lt-ltb t.count 512 (omega (arith, x.count)))
     (record {
       count = omega (arith, x.count, length-append l (b ∷ []));
@@ -94,25 +94,25 @@ byte-is t l b x h =
     more = omega (arith, length-append l (b ∷ []))
 
 -- bytes more
-bytes-are : (t : Text) (l m : List ℕ) → TextIs t l → length l + length m ≤ 512 → TextIs (appendBytes t m) (l ++ m)
-unfolding appendBytes
-bytes-are t l [] x h = rw (append-nil l) x
-bytes-are t l (b ∷ m) x h =
+bytes_are : (t : Text) (l m : List ℕ) → TextIs t l → length l + length m ≤ 512 → TextIs (append_bytes t m) (l ++ m)
+unfolding append_bytes
+bytes_are t l [] x h = rw (append-nil l) x
+bytes_are t l (b ∷ m) x h =
     let more : length (l ++ b ∷ []) ≡ suc (length l) = omega (arith, length-append l (b ∷ [])) in
     rw (← append_snoc l b m)
-    (bytes-are (appendByte t b) (l ++ b ∷ []) m (byte-is t l b x (omega (arith, h))) (omega (arith, h, more)))
+    (bytes_are (append_byte t b) (l ++ b ∷ []) m (byte_is t l b x (omega (arith, h))) (omega (arith, h, more)))
 
 -- the text that at most 512 bytes make
-pub text-is : (l : List ℕ) → length l ≤ 512 → TextIs (appendBytes emptyText l) l
-text-is l h = bytes-are emptyText [] l empty-is (omega arith)
+pub text_is : (l : List ℕ) → length l ≤ 512 → TextIs (append_bytes empty_text l) l
+text_is l h = bytes_are empty_text [] l empty_is (omega arith)
 
 -- the first n elements of a list, each by its index
-listOf-take : (l : List ℕ) (n d : ℕ) → n ≤ length l → list_of (λ i. get_or l i d) n ≡ take n l
+list_of-take : (l : List ℕ) (n d : ℕ) → n ≤ length l → list_of (λ i. get_or l i d) n ≡ take n l
 unfolding list_of
-listOf-take l zero d h = refl
-listOf-take l (suc n) d h = ap (λ (m : List ℕ). m ++ get_or l n d ∷ []) (listOf-take l n d (omega arith)) ∙ sym (take-suc l n d h)
+list_of-take l zero d h = refl
+list_of-take l (suc n) d h = ap (λ (m : List ℕ). m ++ get_or l n d ∷ []) (list_of-take l n d (omega arith)) ∙ sym (take-suc l n d h)
 
 -- the bytes of a text, each by its index
-pub text-listOf : {t : Text} {l : List ℕ} → TextIs t l → length l ≤ 512 → list_of (λ i. get_or t.bytes i 0) t.count ≡ l
-text-listOf {t} {l} x h =
-    listOf-take t.bytes t.count 0 (omega (arith, x.count, x.room)) ∙ ap (λ (n : ℕ). take n t.bytes) x.count ∙ x.front
+pub text_list_of : {t : Text} {l : List ℕ} → TextIs t l → length l ≤ 512 → list_of (λ i. get_or t.bytes i 0) t.count ≡ l
+text_list_of {t} {l} x h =
+    list_of-take t.bytes t.count 0 (omega (arith, x.count, x.room)) ∙ ap (λ (n : ℕ). take n t.bytes) x.count ∙ x.front

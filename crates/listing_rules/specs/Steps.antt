@@ -5,14 +5,14 @@ use Rattle.lists.specs.Choices.{pick}
 use Rattle.listing_rules.specs.declared.Text.{Text}
 
 -- the text of no bytes
-unfoldable pub emptyText : Text
-emptyText = record { count = 0; bytes = replicate 512 0 }
+unfoldable pub empty_text : Text
+empty_text = record { count = 0; bytes = replicate 512 0 }
 
 -- a text with a byte behind it, which is left out where there is no room
-unfoldable pub appendByte : Text → ℕ → Text
-appendByte t b = pick (ltb t.count 512) (record { count = t.count + 1; bytes = set t.bytes t.count b }) t
+unfoldable pub append_byte : Text → ℕ → Text
+append_byte t b = pick (ltb t.count 512) (record { count = t.count + 1; bytes = set t.bytes t.count b }) t
 
 -- a text with bytes behind it, one after another
-unfoldable pub appendBytes : Text → List ℕ → Text
-appendBytes t [] = t
-appendBytes t (b ∷ l) = appendBytes (appendByte t b) l
+unfoldable pub append_bytes : Text → List ℕ → Text
+append_bytes t [] = t
+append_bytes t (b ∷ l) = append_bytes (append_byte t b) l

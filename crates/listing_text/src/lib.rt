@@ -1,10 +1,10 @@
 // The text of the listing of an AREA file, in bytes, as the listing program prints it.
 ghost use Rattle.std.specs.Prelude.{◌≡◌, ◌≤◌, length, take, get_or};
 ghost use Rattle.lists.specs.Lists.{list_of};
-ghost use Rattle.refusal_rules.specs.Answers.{gives, sizeSays};
+ghost use Rattle.refusal_rules.specs.Answers.{gives, size_says};
 ghost use Rattle.copy_rules.specs.Runs.{copied};
-ghost use Rattle.listing_rules.specs.Page.{orderLine, layoutLines, blockName, block_line, block_lines, listingText};
-ghost use Rattle.listing_rules.specs.Steps.{emptyText, appendBytes};
+ghost use Rattle.listing_rules.specs.Page.{order_line, layout_lines, block_name, block_line, block_lines, listing_text};
+ghost use Rattle.listing_rules.specs.Steps.{empty_text, append_bytes};
 
 use area_rules::{AreaLayout, AreaOpening, Block};
 use endian_rules::Order;
@@ -17,7 +17,7 @@ use texts::{append_bytes, append_number, append_two};
 
 // A text with the line of a byte order behind it.
 fn append_order(text: Text, order: Order) -> Text
-    ensures { result ≡ appendBytes text (orderLine order) }
+    ensures { result ≡ append_bytes text (order_line order) }
 {
     match order {
         Order::Big => append_bytes(text, b"AREA big\n"),
@@ -27,7 +27,7 @@ fn append_order(text: Text, order: Order) -> Text
 
 // A text with the two lines of a layout behind it: the byte order, and the numbers.
 fn append_layout(text: Text, layout: AreaLayout) -> Text
-    ensures { result ≡ appendBytes text (layoutLines layout) }
+    ensures { result ≡ append_bytes text (layout_lines layout) }
 {
     let order = layout.order;
     let lines = layout.lines as u64;
@@ -43,7 +43,7 @@ fn append_layout(text: Text, layout: AreaLayout) -> Text
 
 // A text with the name of a block behind it.
 fn append_name(text: Text, block: Block) -> Text
-    ensures { result ≡ appendBytes text (blockName block) }
+    ensures { result ≡ append_bytes text (block_name block) }
 {
     match block {
         Block::Dir => append_bytes(text, b"DIR"),
@@ -57,7 +57,7 @@ fn append_name(text: Text, block: Block) -> Text
 
 // A text with the line of a block behind it: its name, start and length.
 fn append_block(text: Text, entry: Entry) -> Text
-    ensures { result ≡ appendBytes text (block_line entry) }
+    ensures { result ≡ append_bytes text (block_line entry) }
 {
     let block = entry.block;
     let name = append_name(text, block);
@@ -68,7 +68,7 @@ fn append_block(text: Text, entry: Entry) -> Text
 // A text with the lines of blocks behind it.
 fn append_blocks(text: Text, blocks: BlockList) -> Text
     requires { (blocks.count ≤ 6) × (length blocks.entries ≡ 6) }
-    ensures { result ≡ appendBytes text (block_lines (take blocks.count blocks.entries)) }
+    ensures { result ≡ append_bytes text (block_lines (take blocks.count blocks.entries)) }
 {
     let count = blocks.count;
     let entries = blocks.entries;
@@ -85,7 +85,7 @@ fn append_blocks(text: Text, blocks: BlockList) -> Text
 
 // The text of the listing of a file: the lines of the layout and of the blocks, the line of the refusal, or that the file is too long.
 fn text_of(file: &[u8]) -> Text
-    ensures { result ≡ appendBytes emptyText (listingText file.now) }
+    ensures { result ≡ append_bytes empty_text (listing_text file.now) }
 {
     let empty = Text {
         count: 0,
@@ -129,7 +129,7 @@ fn fill_text(text: Text, out: &mut [u8])
 // the blocks that are present by start; the line of the refusal where the file is refused; `TOO LONG` where it has more than 65,536 bytes. Refused with 10
 // where the output is too short, and then nothing is written; 512 places are enough for every file.
 pub fn list_text(file: &[u8], out: &mut [u8]) -> SizeAnswer
-    ensures { (sizeSays result, out.new) ≡ copied (gives (listingText file.now)) out.old }
+    ensures { (size_says result, out.new) ≡ copied (gives (listing_text file.now)) out.old }
 {
     let text = text_of(file);
     let count = text.count;

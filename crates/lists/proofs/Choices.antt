@@ -11,9 +11,9 @@ both_true true b e = (refl, e)
 both_true false b e = absurd (false≢true e)
 
 -- and when they do
-pub true-both : (a b : Bool) → a ≡ true → b ≡ true → both a b ≡ true
-true-both true b e f = f
-true-both false b e f = e
+pub true_both : (a b : Bool) → a ≡ true → b ≡ true → both a b ≡ true
+true_both true b e f = f
+true_both false b e f = e
 
 -- what it says that they do not
 pub both_false : (a b : Bool) → both a b ≡ false → (a ≡ false) ⊎ (b ≡ false)
@@ -26,18 +26,18 @@ either_true true b e = inl refl
 either_true false b e = inr e
 
 -- and when one does
-pub true-either : (a b : Bool) → (a ≡ true) ⊎ (b ≡ true) → either a b ≡ true
-true-either true b e = refl
-true-either false b (inl e) = absurd (false≢true e)
-true-either false b (inr e) = e
+pub true_either : (a b : Bool) → (a ≡ true) ⊎ (b ≡ true) → either a b ≡ true
+true_either true b e = refl
+true_either false b (inl e) = absurd (false≢true e)
+true_either false b (inr e) = e
 
 module _ {A : Type 0} where
   -- two choices by one test are equal where what the test picks is equal
-  pub pick_same : (t : Bool) (a b c d : A) → (t ≡ true → a ≡ b) → (t ≡ false → c ≡ d) → pick t a c ≡ pick t b d
-  pick_same true a b c d f g = f refl
-  pick_same false a b c d f g = g refl
+  pub pick-same : (t : Bool) (a b c d : A) → (t ≡ true → a ≡ b) → (t ≡ false → c ≡ d) → pick t a c ≡ pick t b d
+  pick-same true a b c d f g = f refl
+  pick-same false a b c d f g = g refl
 
   -- a property of what is picked
-  pub pick-cases : (P : A → Type 0) (t : Bool) (a b : A) → (t ≡ true → P a) → (t ≡ false → P b) → P (pick t a b)
-  pick-cases P true a b f g = f refl
-  pick-cases P false a b f g = g refl
+  pub pick_cases : (P : A → Type 0) (t : Bool) (a b : A) → (t ≡ true → P a) → (t ≡ false → P b) → P (pick t a b)
+  pick_cases P true a b f g = f refl
+  pick_cases P false a b f g = g refl

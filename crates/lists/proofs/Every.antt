@@ -22,5 +22,5 @@ module _ {A : Type 0} (t : ℕ → A → Bool) where
   from i (x ∷ l) d e (suc k) h =
       rw (add-suc, ← suc-add) (from (suc i) l d (both_true (t i x) (every (suc i) l) e).1 k (le_of_suc-le-suc h))
 
-  pub every-at : (l : List A) (d : A) → every 0 l ≡ true → (k : ℕ) → k < length l → t k (get_or l k d) ≡ true
-  every-at l d e k h = rw zero-add at (from 0 l d e k h)
+  pub every_at : (l : List A) (d : A) → every 0 l ≡ true → (k : ℕ) → k < length l → t k (get_or l k d) ≡ true
+  every_at l d e k h = rw zero-add at (from 0 l d e k h)

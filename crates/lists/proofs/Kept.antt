@@ -13,10 +13,10 @@ use Rattle.lists.specs.Lists.{lines_of, keep}
 
 module _ {A : Type 0} (t : A → Bool) where
   -- what is kept of two lists that are joined
-  pub keep_append : (l m : List A) → keep t (l ++ m) ≡ keep t l ++ keep t m
+  pub keep-append : (l m : List A) → keep t (l ++ m) ≡ keep t l ++ keep t m
   unfolding keep
-  keep_append [] m = refl
-  keep_append (x ∷ l) m = step (t x) (keep_append l m)
+  keep-append [] m = refl
+  keep-append (x ∷ l) m = step (t x) (keep-append l m)
     where
       step : (b : Bool) → keep t (l ++ m) ≡ keep t l ++ keep t m
           → pick b (x ∷ keep t (l ++ m)) (keep t (l ++ m)) ≡ pick b (x ∷ keep t l) (keep t l) ++ keep t m
@@ -34,10 +34,10 @@ module _ {A : Type 0} (t : A → Bool) where
       step false h = omega arith
 
   -- what is kept is a member that passes, and a member that passes is kept
-  pub kept-is : (x : A) (l : List A) → Memᴰ x (keep t l) → Memᴰ x l × (t x ≡ true)
+  pub kept_is : (x : A) (l : List A) → Memᴰ x (keep t l) → Memᴰ x l × (t x ≡ true)
   unfolding keep
-  kept-is x [] m = absurd (Memᴰ.not-nil m)
-  kept-is x (y ∷ l) m = step (t y) refl (kept-is x l) m
+  kept_is x [] m = absurd (Memᴰ.not-nil m)
+  kept_is x (y ∷ l) m = step (t y) refl (kept_is x l) m
     where
       more : Memᴰ x l × (t x ≡ true) → Memᴰ x (y ∷ l) × (t x ≡ true)
       more r = (Memᴰ.tail r.0, r.1)
@@ -47,10 +47,10 @@ module _ {A : Type 0} (t : A → Bool) where
       step true e rec q = ⊎_elim (λ p. (Memᴰ.head p, ap t p ∙ e)) (λ r. more (rec r)) (Memᴰ.cases_cons q)
       step false e rec q = more (rec q)
 
-  pub is-kept : {x : A} {l : List A} → Memᴰ x l → t x ≡ true → Memᴰ x (keep t l)
+  pub is_kept : {x : A} {l : List A} → Memᴰ x l → t x ≡ true → Memᴰ x (keep t l)
   unfolding keep
-  is-kept {x} (Memᴰ.head {x = y} {xs = l} p) e = rw (sym (ap t p) ∙ e) (Memᴰ.head p)
-  is-kept {x} (Memᴰ.tail {x = y} {xs = l} m) e = step (t y) (is-kept m e)
+  is_kept {x} (Memᴰ.head {x = y} {xs = l} p) e = rw (sym (ap t p) ∙ e) (Memᴰ.head p)
+  is_kept {x} (Memᴰ.tail {x = y} {xs = l} m) e = step (t y) (is_kept m e)
     where
       step : (b : Bool) → Memᴰ x (keep t l) → Memᴰ x (pick b (y ∷ keep t l) (keep t l))
       step true q = Memᴰ.tail q
@@ -63,13 +63,13 @@ module _ {A : Type 0} (t : A → Bool) where
   keep-none (x ∷ l) h = rw (h x (Memᴰ.head refl)) (keep-none l (λ y m. h y (Memᴰ.tail m)))
 
 -- two tests that agree on the members keep the same
-pub keep_same : {A : Type 0} (t u : A → Bool) (l : List A) → ((x : A) → Memᴰ x l → t x ≡ u x) → keep t l ≡ keep u l
+pub keep-same : {A : Type 0} (t u : A → Bool) (l : List A) → ((x : A) → Memᴰ x l → t x ≡ u x) → keep t l ≡ keep u l
 unfolding keep
-keep_same t u [] h = refl
-keep_same t u (x ∷ l) h = rw (h x (Memᴰ.head refl), keep_same t u l (λ y m. h y (Memᴰ.tail m)))
+keep-same t u [] h = refl
+keep-same t u (x ∷ l) h = rw (h x (Memᴰ.head refl), keep-same t u l (λ y m. h y (Memᴰ.tail m)))
 
 -- what is kept of lines is what is kept of each line
-pub keep-linesOf : {A : Type 0} (t : A → Bool) (g : ℕ → List A) (n : ℕ) → keep t (lines_of g n) ≡ lines_of (λ i. keep t (g i)) n
+pub keep-lines_of : {A : Type 0} (t : A → Bool) (g : ℕ → List A) (n : ℕ) → keep t (lines_of g n) ≡ lines_of (λ i. keep t (g i)) n
 unfolding keep lines_of
-keep-linesOf t g zero = refl
-keep-linesOf t g (suc n) = keep_append t (lines_of g n) (g n) ∙ ap (λ l. l ++ keep t (g n)) (keep-linesOf t g n)
+keep-lines_of t g zero = refl
+keep-lines_of t g (suc n) = keep-append t (lines_of g n) (g n) ∙ ap (λ l. l ++ keep t (g n)) (keep-lines_of t g n)

@@ -12,10 +12,10 @@ use Rattle.lists.proofs.Rows.{compared}
 
 module _ (t : ℕ → Bool) where
   -- it is the lowest
-  pub lowest-is : (p c : ℕ) → IsLowest t p c (lowest t p c)
+  pub lowest_is : (p c : ℕ) → IsLowest t p c (lowest t p c)
   unfolding lowest
-  lowest-is p zero = record { from = omega arith; to = omega arith; none = λ q l m. let z : ⊥ = omega arith in absurd z; holds = λ l. let z : ⊥ = omega arith in absurd z }
-  lowest-is p (suc c) = step (t p) refl (lowest-is (p + 1) c)
+  lowest_is p zero = record { from = omega arith; to = omega arith; none = λ q l m. let z : ⊥ = omega arith in absurd z; holds = λ l. let z : ⊥ = omega arith in absurd z }
+  lowest_is p (suc c) = step (t p) refl (lowest_is (p + 1) c)
     where
       step : (b : Bool) → t p ≡ b → IsLowest t (p + 1) c (lowest t (p + 1) c) → IsLowest t p (suc c) (pick b p (lowest t (p + 1) c))
       step true e later = record { from = omega arith; to = omega arith; none = λ q l m. let z : ⊥ = omega arith in absurd z; holds = λ l. e }
@@ -28,19 +28,19 @@ module _ (t : ℕ → Bool) where
           }
 
   -- and two numbers that are the lowest are the same
-  pub lowest-only : (p c r s : ℕ) → IsLowest t p c r → IsLowest t p c s → r ≡ s
-  lowest-only p c r s a b = ⊎_elim (λ e. e) (λ d. ⊎_elim (λ lt. absurd (below r s a b lt)) (λ lt. absurd (below s r b a lt)) d) (compared r s)
+  pub lowest_only : (p c r s : ℕ) → IsLowest t p c r → IsLowest t p c s → r ≡ s
+  lowest_only p c r s a b = ⊎_elim (λ e. e) (λ d. ⊎_elim (λ lt. absurd (below r s a b lt)) (λ lt. absurd (below s r b a lt)) d) (compared r s)
     where
       below : (i j : ℕ) → IsLowest t p c i → IsLowest t p c j → i < j → ⊥
       below i j x y lt = false≢true (sym (y.none i x.from lt) ∙ x.holds (omega (arith, lt, y.to)))
 
   -- so that it is the one exactly where it is the lowest
-  pub lowest-exactly : (p c r : ℕ) → (lowest t p c ≡ r) ↔ IsLowest t p c r
-  lowest-exactly p c r = (λ e. subst (IsLowest t p c) e (lowest-is p c), λ h. lowest-only p c (lowest t p c) r (lowest-is p c) h)
+  pub lowest_exactly : (p c r : ℕ) → (lowest t p c ≡ r) ↔ IsLowest t p c r
+  lowest_exactly p c r = (λ e. subst (IsLowest t p c) e (lowest_is p c), λ h. lowest_only p c (lowest t p c) r (lowest_is p c) h)
 
   -- there is none exactly where the test holds of no number
-  pub no-lowest : (p c : ℕ) → (lowest t p c ≡ p + c) ↔ ((q : ℕ) → p ≤ q → q < p + c → t q ≡ false)
-  no-lowest p c = (
-    λ e q l m. (lowest-is p c).none q l (subst (λ (i : ℕ). q < i) (sym e) m),
-    λ h. (lowest-exactly p c (p + c)).1 (record { from = omega arith; to = omega arith; none = h; holds = λ l. let z : ⊥ = omega arith in absurd z }),
+  pub no_lowest : (p c : ℕ) → (lowest t p c ≡ p + c) ↔ ((q : ℕ) → p ≤ q → q < p + c → t q ≡ false)
+  no_lowest p c = (
+    λ e q l m. (lowest_is p c).none q l (subst (λ (i : ℕ). q < i) (sym e) m),
+    λ h. (lowest_exactly p c (p + c)).1 (record { from = omega arith; to = omega arith; none = h; holds = λ l. let z : ⊥ = omega arith in absurd z }),
   )

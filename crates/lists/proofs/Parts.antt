@@ -10,15 +10,15 @@ use lib.Seq.{length-take-le, take-suc, take-nil, take-take, take-append-le, drop
 use Rattle.lists.specs.Lists.{part}
 
 module _ {A : Type 0} where
-  pub length_part : (a n : ℕ) (l : List A) → a + n ≤ length l → length (part a n l) ≡ n
-  length_part a n l h = length-take-le n (drop a l) (omega (arith, length-drop a l))
+  pub length-part : (a n : ℕ) (l : List A) → a + n ≤ length l → length (part a n l) ≡ n
+  length-part a n l h = length-take-le n (drop a l) (omega (arith, length-drop a l))
 
-  pub get_d_part : (a n : ℕ) (l : List A) (i : ℕ) (d : A) → i < n → get_or (part a n l) i d ≡ get_or l (a + i) d
-  get_d_part a n l i d h = get_or-take n (drop a l) i d h ∙ get_or-drop a l i d
+  pub get_or-part : (a n : ℕ) (l : List A) (i : ℕ) (d : A) → i < n → get_or (part a n l) i d ≡ get_or l (a + i) d
+  get_or-part a n l i d h = get_or-take n (drop a l) i d h ∙ get_or-drop a l i d
 
   -- one element more
-  pub part-suc : (a n : ℕ) (l : List A) (d : A) → a + n < length l → part a (suc n) l ≡ part a n l ++ get_or l (a + n) d ∷ []
-  part-suc a n l d h =
+  pub part_suc : (a n : ℕ) (l : List A) (d : A) → a + n < length l → part a (suc n) l ≡ part a n l ++ get_or l (a + n) d ∷ []
+  part_suc a n l d h =
       take-suc (drop a l) n d (omega (arith, length-drop a l)) ∙ ap (λ (x : A). part a n l ++ x ∷ []) (get_or-drop a l n d)
 
   drop-take : (b n : ℕ) (l : List A) → drop b (take n l) ≡ take (n - b) (drop b l)
@@ -47,14 +47,14 @@ module _ {A : Type 0} where
       ext_get_or d (part a n l) (part a n k) e
       (λ i lt.
       let low : i < n = omega (arith, length-take n (drop a l)) in
-      get_d_part a n l i d low ∙ h (a + i) (omega arith) (omega arith) ∙ sym (get_d_part a n k i d low))
+      get_or-part a n l i d low ∙ h (a + i) (omega arith) (omega arith) ∙ sym (get_or-part a n k i d low))
 
   -- so it is where the lists are equally long, and where the part is inside both
-  pub part_same : (a n : ℕ) (l k : List A) (d : A) → length l ≡ length k → ((i : ℕ) → a ≤ i → i < a + n → get_or l i d ≡ get_or k i d)
+  pub part-same : (a n : ℕ) (l k : List A) (d : A) → length l ≡ length k → ((i : ℕ) → a ≤ i → i < a + n → get_or l i d ≡ get_or k i d)
       → part a n l ≡ part a n k
-  part_same a n l k d e h =
+  part-same a n l k d e h =
       part_ext a n l k d (omega (arith, length-take n (drop a l), length-drop a l, length-take n (drop a k), length-drop a k)) h
 
-  pub part-agree : (a n : ℕ) (l k : List A) (d : A) → a + n ≤ length l → a + n ≤ length k
+  pub part_agree : (a n : ℕ) (l k : List A) (d : A) → a + n ≤ length l → a + n ≤ length k
       → ((i : ℕ) → a ≤ i → i < a + n → get_or l i d ≡ get_or k i d) → part a n l ≡ part a n k
-  part-agree a n l k d p q h = part_ext a n l k d (length_part a n l p ∙ sym (length_part a n k q)) h
+  part_agree a n l k d p q h = part_ext a n l k d (length-part a n l p ∙ sym (length-part a n k q)) h

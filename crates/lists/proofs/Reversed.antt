@@ -11,9 +11,9 @@ use lib.Seq.{get_or_at}
 
 module _ {A : Type 0} where
   -- the element at index i counted from the other end
-  pub get_d_reverse : (l : List A) (i : ℕ) (d : A) → i < length l → get_or (reverse l) i d ≡ get_or l (length l - 1 - i) d
-  get_d_reverse [] i d h = let z : ⊥ = omega arith in absurd z
-  get_d_reverse (x ∷ l) i d h =
+  pub get_or-reverse : (l : List A) (i : ℕ) (d : A) → i < length l → get_or (reverse l) i d ≡ get_or l (length l - 1 - i) d
+  get_or-reverse [] i d h = let z : ⊥ = omega arith in absurd z
+  get_or-reverse (x ∷ l) i d h =
       ap (λ (k : List A). get_or k i d) (reverse-cons x l)
       ∙ ⊎_elim
       (λ e.
@@ -22,6 +22,6 @@ module _ {A : Type 0} where
       (λ lt.
       let next : suc (length l - 1 - i) ≡ suc (length l) - 1 - i = omega arith in
       get_or-append (reverse l) (x ∷ []) d i (omega (arith, length-reverse l))
-      ∙ get_d_reverse l i d lt
+      ∙ get_or-reverse l i d lt
       ∙ ap (λ (k : ℕ). get_or (x ∷ l) k d) next)
       (eq-or-lt_of_le (le_of_suc-le-suc h))

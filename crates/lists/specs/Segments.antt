@@ -8,9 +8,9 @@ total [] = 0
 total (n ∷ lengths) = n + total lengths
 
 -- the length of segment k; 0 where there is no such segment
-abbrev pub segmentLength : List ℕ → ℕ → ℕ
-segmentLength lengths k = get_or lengths k 0
+abbrev pub segment_length : List ℕ → ℕ → ℕ
+segment_length lengths k = get_or lengths k 0
 
 -- how far segment k starts behind the start of the first: the sum of the lengths before its own
-abbrev pub segmentOffset : List ℕ → ℕ → ℕ
-segmentOffset lengths k = total (take k lengths)
+abbrev pub segment_offset : List ℕ → ℕ → ℕ
+segment_offset lengths k = total (take k lengths)

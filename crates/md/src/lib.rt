@@ -1,9 +1,9 @@
 // MD files, point records: opening a file, and comparing layouts.
 ghost use Rattle.std.specs.Prelude.{◌≡◌, ◌+◌, ◌*◌, ◌≤◌, length};
 ghost use Rattle.endian_rules.specs.Words.{word_at};
-ghost use Rattle.refusal_rules.specs.Rules.{judge, first, firstFault};
-ghost use Rattle.md_rules.specs.Rules.{mdCount, mdEqual, mdCountRules, mdSumRules, mdFixedRules, mdEndRules, mdRules};
-ghost use Rattle.md_rules.specs.Opening.{mdLayoutOf, mdSays, openMd, sameMd};
+ghost use Rattle.refusal_rules.specs.Rules.{judge, first, first_fault};
+ghost use Rattle.md_rules.specs.Rules.{md_count, md_equal, md_count_rules, md_sum_rules, md_fixed_rules, md_end_rules, md_rules};
+ghost use Rattle.md_rules.specs.Opening.{md_layout_of, md_says, open_md, same_md};
 
 use endian::{at_least, order_number};
 use endian_rules::Order;
@@ -15,7 +15,7 @@ use refusal_rules::{COUNT_OUT_OF_BOUNDS, MISPLACED, RULE_BROKEN, Refusal, SHORT_
 // One rule more, after a verdict: that word k is a count from `low` to `high`.
 fn count(verdict: Verdict, file: &[u8], order: Order, k: usize, low: u32, high: u32) -> Verdict
     requires { 4 * k + 4 ≤ length file.now }
-    ensures { result ≡ first verdict (judge (mdCount (word_at order file.now) k low high)) }
+    ensures { result ≡ first verdict (judge (md_count (word_at order file.now) k low high)) }
 {
     let holds = within(low, high, read_word(order, file, k));
     check(verdict, holds, COUNT_OUT_OF_BOUNDS, k)
@@ -24,7 +24,7 @@ fn count(verdict: Verdict, file: &[u8], order: Order, k: usize, low: u32, high: 
 // One rule more, after a verdict: that word k is n.
 fn equal(verdict: Verdict, file: &[u8], order: Order, k: usize, n: usize) -> Verdict
     requires { 4 * k + 4 ≤ length file.now }
-    ensures { result ≡ first verdict (judge (mdEqual (word_at order file.now) k n)) }
+    ensures { result ≡ first verdict (judge (md_equal (word_at order file.now) k n)) }
 {
     let holds = read_word(order, file, k) as usize == n;
     check(verdict, holds, RULE_BROKEN, k)
@@ -33,7 +33,7 @@ fn equal(verdict: Verdict, file: &[u8], order: Order, k: usize, n: usize) -> Ver
 // What the rules of the counts say. The verdict up to the rule of a word is named after it.
 fn count_verdict(file: &[u8], order: Order) -> Verdict
     requires { 16384 ≤ length file.now }
-    ensures { result ≡ firstFault (mdCountRules (word_at order file.now)) }
+    ensures { result ≡ first_fault (md_count_rules (word_at order file.now)) }
 {
     let to_3 = count(Verdict::Pass, file, order, 3, 1, 65535);
     let to_4 = count(to_3, file, order, 4, 1, 1600000);
@@ -45,8 +45,8 @@ fn count_verdict(file: &[u8], order: Order) -> Verdict
 
 // What the rules of the words that follow from the counts say, where the counts are within their bounds.
 fn sum_verdict(file: &[u8], order: Order) -> Verdict
-    requires { (16384 ≤ length file.now) × (firstFault (mdCountRules (word_at order file.now)) ≡ Verdict.Pass) }
-    ensures { result ≡ firstFault (mdSumRules (word_at order file.now)) }
+    requires { (16384 ≤ length file.now) × (first_fault (md_count_rules (word_at order file.now)) ≡ Verdict.Pass) }
+    ensures { result ≡ first_fault (md_sum_rules (word_at order file.now)) }
 {
     let rows = read_word(order, file, 3) as usize;
     let columns = read_word(order, file, 4) as usize;
@@ -66,7 +66,7 @@ fn sum_verdict(file: &[u8], order: Order) -> Verdict
 // What the rules of the words that are the same in every file say, after a verdict.
 fn fixed_verdict(verdict: Verdict, file: &[u8], order: Order) -> Verdict
     requires { 16384 ≤ length file.now }
-    ensures { result ≡ first verdict (firstFault (mdFixedRules (word_at order file.now))) }
+    ensures { result ≡ first verdict (first_fault (md_fixed_rules (word_at order file.now))) }
 {
     let to_31 = equal(verdict, file, order, 31, 64);
     let to_32 = equal(to_31, file, order, 32, 464);
@@ -76,8 +76,8 @@ fn fixed_verdict(verdict: Verdict, file: &[u8], order: Order) -> Verdict
 
 // What the rules of word 30 say, after a verdict, where the counts are within their bounds.
 fn end_verdict(verdict: Verdict, file: &[u8], order: Order) -> Verdict
-    requires { (16384 ≤ length file.now) × (firstFault (mdCountRules (word_at order file.now)) ≡ Verdict.Pass) }
-    ensures { result ≡ first verdict (firstFault (mdEndRules (length file.now) (word_at order file.now))) }
+    requires { (16384 ≤ length file.now) × (first_fault (md_count_rules (word_at order file.now)) ≡ Verdict.Pass) }
+    ensures { result ≡ first verdict (first_fault (md_end_rules (length file.now) (word_at order file.now))) }
 {
     let rows = read_word(order, file, 3) as usize;
     let columns = read_word(order, file, 4) as usize;
@@ -93,7 +93,7 @@ fn end_verdict(verdict: Verdict, file: &[u8], order: Order) -> Verdict
 // What all rules of opening say of a file that has at least 16,384 bytes.
 fn md_verdict(file: &[u8], order: Order) -> Verdict
     requires { 16384 ≤ length file.now }
-    ensures { result ≡ firstFault (mdRules (length file.now) (word_at order file.now)) }
+    ensures { result ≡ first_fault (md_rules (length file.now) (word_at order file.now)) }
 {
     match count_verdict(file, order) {
         Verdict::Fault(refusal) => Verdict::Fault(refusal),
@@ -108,7 +108,7 @@ fn md_verdict(file: &[u8], order: Order) -> Verdict
 // The layout that the words of a file give.
 fn layout_of_words(file: &[u8], order: Order) -> MdLayout
     requires { 16384 ≤ length file.now }
-    ensures { result ≡ mdLayoutOf order (length file.now) (word_at order file.now) }
+    ensures { result ≡ md_layout_of order (length file.now) (word_at order file.now) }
 {
     MdLayout {
         order: order,
@@ -127,7 +127,7 @@ fn layout_of_words(file: &[u8], order: Order) -> MdLayout
 // Opens an MD file in a byte order. Refused, with document 01's number and place, by the first of its rules that fails: 1 where the file is shorter
 // than 16,384 bytes, 3 at a count outside its bounds, 4 at a word unequal to its rule, 5 at 30 where word 30 only passes the file's end.
 pub fn open(file: &[u8], order: Order) -> MdOpening
-    ensures { mdSays result ≡ openMd order file.now }
+    ensures { md_says result ≡ open_md order file.now }
 {
     if file.len() < 16384 {
         return MdOpening::Refused(Refusal {
@@ -143,7 +143,7 @@ pub fn open(file: &[u8], order: Order) -> MdOpening
 
 // Whether two MD layouts are the same in every field. What has been compared up to a field is named after it.
 pub fn same_md(a: MdLayout, b: MdLayout) -> bool
-    ensures { result ≡ sameMd a b }
+    ensures { result ≡ same_md a b }
 {
     let data_start = equal_and(a.data_start, b.data_start, true);
     let column_start = equal_and(a.column_start, b.column_start, data_start);

@@ -1,8 +1,8 @@
 // The keys of an MD file: the position of a key by its name.
 ghost use Rattle.std.specs.Prelude.{◌≡◌, ◌≤◌, length};
-ghost use Rattle.refusal_rules.specs.Answers.{numberSays};
+ghost use Rattle.refusal_rules.specs.Answers.{number_says};
 ghost use Rattle.md_rules.specs.Accepts.{MdOf};
-ghost use Rattle.md_part_rules.specs.Keys.{isNamed, keyIn, key_of};
+ghost use Rattle.md_part_rules.specs.Keys.{is_named, key_in, key_of};
 
 use fresh_layout::md_of;
 use layout_rules::Layout;
@@ -13,7 +13,7 @@ use refusal_rules::{NO_SUCH, NumberAnswer, Refusal};
 // Whether the key at a position, counted from 1, of an accepted file has a name of four bytes.
 fn is_named(file: &[u8], name: &[u8], position: u32) -> bool
     requires { (16384 ≤ length file.now) × ((length name.now ≡ 4) × ((1 ≤ position) × (position ≤ 400))) }
-    ensures { result ≡ isNamed file.now name.now position }
+    ensures { result ≡ is_named file.now name.now position }
 {
     let at = 4 * (464 + (position - 1) as usize);
     let first = file[at] == name[0];
@@ -26,7 +26,7 @@ fn is_named(file: &[u8], name: &[u8], position: u32) -> bool
 // The first position of the key of an accepted file that has a name. Refused with 7 where the name has another length than four, or no key has it.
 fn find_in(file: &[u8], l: MdLayout, name: &[u8]) -> NumberAnswer
     requires { MdOf l.order file.now l }
-    ensures { numberSays result ≡ keyIn file.now l name.now }
+    ensures { number_says result ≡ key_in file.now l name.now }
 {
     let keys = l.keys;
     let mut position: u32 = 1;
@@ -47,7 +47,7 @@ fn find_in(file: &[u8], l: MdLayout, name: &[u8]) -> NumberAnswer
 // The first position, counted from 1, of the key that has a name, which is four lent bytes, compared as they are. Refused with 9 where the layout is stale, then
 // with 7 where it is of another kind, then with 7 where the name has another length or no key has it.
 pub fn find_key(file: &[u8], layout: Layout, name: &[u8]) -> NumberAnswer
-    ensures { numberSays result ≡ key_of file.now layout name.now }
+    ensures { number_says result ≡ key_of file.now layout name.now }
 {
     match md_of(file, layout) {
         MdOpening::Refused(refusal) => NumberAnswer::Refused(refusal),

@@ -9,127 +9,127 @@ use lib.IntN.{ℤ}
 use lib.ListN.{length, take, drop, length-append}
 use lib.Seq.{take_at, drop_at, drop-drop}
 use Rattle.lists.specs.Lists.{part, list_of, over}
-use Rattle.lists.proofs.Built.{length-listOf}
-use Rattle.lists.proofs.Filled.{length_over}
-use Rattle.lists.proofs.Parts.{length_part}
-use Rattle.endian_rules.specs.Words.{signedAt}
-use Rattle.refusal_rules.specs.Answers.{sizeSays}
+use Rattle.lists.proofs.Built.{length-list_of}
+use Rattle.lists.proofs.Filled.{length-over}
+use Rattle.lists.proofs.Parts.{length-part}
+use Rattle.endian_rules.specs.Words.{signed_at}
+use Rattle.refusal_rules.specs.Answers.{size_says}
 use Rattle.refusal_rules.specs.Rules.{Hold}
 use Rattle.refusal_rules.specs.declared.Refusal.{Refusal}
 use Rattle.refusal_rules.specs.declared.SizeAnswer.{SizeAnswer}
 use Rattle.refusal_rules.specs.declared.SizeAnswer.TheVariants.{Value, Refused}
-use Rattle.refusal_rules.proofs.Answers.{gives-refuses, gives_same}
-use Rattle.refusal_rules.proofs.Exactness.{within-exactly}
+use Rattle.refusal_rules.proofs.Answers.{gives-refuses, gives-same}
+use Rattle.refusal_rules.proofs.Exactness.{within_exactly}
 use Rattle.refusal_rules.proofs.Tables.{also}
 use Rattle.md_rules.specs.Accepts.{MdOf}
-use Rattle.md_rules.specs.Fields.{fields_of, fieldWord, IsField}
+use Rattle.md_rules.specs.Fields.{fields_of, field_word, IsField}
 use Rattle.md_rules.specs.declared.MdLayout.{MdLayout}
 use Rattle.md_rules.proofs.Fields.{field-inside}
-use Rattle.md_rules.specs.Places.{partWord, partStartOf}
-use Rattle.md_rules.proofs.Bounds.{md-bounds, md-bounded}
-use Rattle.md_rules.proofs.Places.{part-begins}
-use Rattle.md_rules.proofs.Sizes.{part-most, field-in-part}
-use Rattle.copy_rules.specs.Runs.{wordsAt}
-use Rattle.md_part_rules.specs.Records.{partFields, recordFields, IsRecord, recordRules}
+use Rattle.md_rules.specs.Places.{part_word, part_start_of}
+use Rattle.md_rules.proofs.Bounds.{md_bounds, md_bounded_lem}
+use Rattle.md_rules.proofs.Places.{part_begins}
+use Rattle.md_rules.proofs.Sizes.{part_most, field_in_part}
+use Rattle.copy_rules.specs.Runs.{words_at}
+use Rattle.md_part_rules.specs.Records.{part_fields, record_fields, IsRecord, record_rules}
 
 -- ---- how many fields
 
 -- a row header
-pub row-fields : (m : MdLayout) (r : ℕ) → 1 ≤ r → fields_of m r 0 ≡ m.row_keys
+pub row_fields : (m : MdLayout) (r : ℕ) → 1 ≤ r → fields_of m r 0 ≡ m.row_keys
 unfolding fields_of
-row-fields m zero h = let z : ⊥ = omega arith in absurd z
-row-fields m (suc r) h = rw (eqb-suc-zero r)
+row_fields m zero h = let z : ⊥ = omega arith in absurd z
+row_fields m (suc r) h = rw (eqb-suc-zero r)
 
 -- a column header
-pub column-fields : (m : MdLayout) (c : ℕ) → 1 ≤ c → fields_of m 0 c ≡ m.column_keys
+pub column_fields : (m : MdLayout) (c : ℕ) → 1 ≤ c → fields_of m 0 c ≡ m.column_keys
 unfolding fields_of
-column-fields m zero h = let z : ⊥ = omega arith in absurd z
-column-fields m (suc c) h = rw (eqb-suc-zero c)
+column_fields m zero h = let z : ⊥ = omega arith in absurd z
+column_fields m (suc c) h = rw (eqb-suc-zero c)
 
 -- data
-pub data-fields : (m : MdLayout) (r c : ℕ) → 1 ≤ r → 1 ≤ c → fields_of m r c ≡ m.data_keys
+pub data_fields : (m : MdLayout) (r c : ℕ) → 1 ≤ r → 1 ≤ c → fields_of m r c ≡ m.data_keys
 unfolding fields_of
-data-fields m zero c h k = let z : ⊥ = omega arith in absurd z
-data-fields m (suc r) zero h k = let z : ⊥ = omega arith in absurd z
-data-fields m (suc r) (suc c) h k = rw (eqb-suc-zero r, eqb-suc-zero c)
+data_fields m zero c h k = let z : ⊥ = omega arith in absurd z
+data_fields m (suc r) zero h k = let z : ⊥ = omega arith in absurd z
+data_fields m (suc r) (suc c) h k = rw (eqb-suc-zero r, eqb-suc-zero c)
 
 module _ (f : List ℕ) (m : MdLayout) where
   -- a list of fields has as many elements
-  part_length : (r c : ℕ) → length (partFields f m r c) ≡ fields_of m r c
-  unfolding partFields
-  part_length r c = length-listOf (λ k. signedAt m.order f (4 * fieldWord m r c (k + 1))) (fields_of m r c)
+  part-length : (r c : ℕ) → length (part_fields f m r c) ≡ fields_of m r c
+  unfolding part_fields
+  part-length r c = length-list_of (λ k. signed_at m.order f (4 * field_word m r c (k + 1))) (fields_of m r c)
 
   -- each part of a record
   module _ {r c : ℕ} (is : IsRecord m r c) where
-    pub row-length : {l : List ℤ} → l ≡ partFields f m r 0 → length l ≡ m.row_keys
-    row-length e = ap length e ∙ part_length r 0 ∙ row-fields m r is.row_from
+    pub row-length : {l : List ℤ} → l ≡ part_fields f m r 0 → length l ≡ m.row_keys
+    row-length e = ap length e ∙ part-length r 0 ∙ row_fields m r is.row_from
 
-    pub column-length : {l : List ℤ} → l ≡ partFields f m 0 c → length l ≡ m.column_keys
-    column-length e = ap length e ∙ part_length 0 c ∙ column-fields m c is.column-from
+    pub column-length : {l : List ℤ} → l ≡ part_fields f m 0 c → length l ≡ m.column_keys
+    column-length e = ap length e ∙ part-length 0 c ∙ column_fields m c is.column_from
 
-    pub data-length : {l : List ℤ} → l ≡ partFields f m r c → length l ≡ m.data_keys
-    data-length e = ap length e ∙ part_length r c ∙ data-fields m r c is.row_from is.column-from
+    pub data_length : {l : List ℤ} → l ≡ part_fields f m r c → length l ≡ m.data_keys
+    data_length e = ap length e ∙ part-length r c ∙ data_fields m r c is.row_from is.column_from
 
   -- ---- where they are
 
   -- the fields of a part are words, one behind the other
-  pub part-words : (r c at n : ℕ) {l : List ℤ} → at ≡ partWord m r c → n ≡ fields_of m r c → l ≡ wordsAt m.order f (4 * at) 4 n → l ≡ partFields f m r c
-  unfolding partFields
+  pub part-words : (r c at n : ℕ) {l : List ℤ} → at ≡ part_word m r c → n ≡ fields_of m r c → l ≡ words_at m.order f (4 * at) 4 n → l ≡ part_fields f m r c
+  unfolding part_fields
   part-words r c at n start count same =
-      let byte : (i : ℕ) → 4 * at + i * 4 ≡ 4 * fieldWord m r c (i + 1) = λ i. omega (arith, start, field-in-part m r c (i + 1)) in
-      same ∙ (λ t. list_of (λ i. signedAt m.order f (byte i t)) (count t))
+      let byte : (i : ℕ) → 4 * at + i * 4 ≡ 4 * field_word m r c (i + 1) = λ i. omega (arith, start, field_in_part m r c (i + 1)) in
+      same ∙ (λ t. list_of (λ i. signed_at m.order f (byte i t)) (count t))
 
   module _ (of : MdOf m.order f m) (r c : ℕ) (row : r ≤ m.rows) (column : c ≤ m.columns) where
     -- they are inside the file
-    pub part-inside : (at n : ℕ) → at ≡ partWord m r c → n ≡ fields_of m r c → (i : ℕ) → i < n → 4 * at + i * 4 + 4 ≤ length f
+    pub part-inside : (at n : ℕ) → at ≡ part_word m r c → n ≡ fields_of m r c → (i : ℕ) → i < n → 4 * at + i * 4 + 4 ≤ length f
     part-inside at n start count i lt =
         let is : IsField m r c (i + 1) = record { row = row; column = column; from = omega arith; to = omega (arith, count) } in
-        omega (arith, start, field-in-part m r c (i + 1), field-inside of.fits is, of.size)
+        omega (arith, start, field_in_part m r c (i + 1), field-inside of.fits is, of.size)
 
     -- the byte at which they begin is a number of 64 bits
-    pub part_small : (at : ℕ) → at ≡ partWord m r c → m.column_start < 4294967296 → m.data_start < 4294967296 → 4 * at < 2 ^ 64
-    part_small at start p q =
-        omega (arith, start, part-most ((md-bounds m).sound (md-bounded m of.fits)) r c row column p q)
+    pub part-small : (at : ℕ) → at ≡ part_word m r c → m.column_start < 4294967296 → m.data_start < 4294967296 → 4 * at < 2 ^ 64
+    part-small at start p q =
+        omega (arith, start, part_most ((md_bounds m).sound (md_bounded_lem m of.fits)) r c row column p q)
 
     -- an answer that says where a part begins
-    pub part-started : {x : SizeAnswer} {at : ℕ} → sizeSays x ≡ partStartOf m r c → x ≡ Value at → at ≡ partWord m r c
-    part-started says value = gives_same (sym (ap sizeSays value) ∙ says ∙ part-begins m of.fits r c row column)
+    pub part_started : {x : SizeAnswer} {at : ℕ} → size_says x ≡ part_start_of m r c → x ≡ Value at → at ≡ part_word m r c
+    part_started says value = gives-same (sym (ap size_says value) ∙ says ∙ part_begins m of.fits r c row column)
 
     -- is no refusal
-    pub part-granted : {A : Type 0} {x : SizeAnswer} {q : Refusal} → sizeSays x ≡ partStartOf m r c → x ≡ Refused q → A
-    part-granted says refused = gives-refuses (sym (part-begins m of.fits r c row column) ∙ sym says ∙ ap sizeSays refused)
+    pub part_granted : {A : Type 0} {x : SizeAnswer} {q : Refusal} → size_says x ≡ part_start_of m r c → x ≡ Refused q → A
+    part_granted says refused = gives-refuses (sym (part_begins m of.fits r c row column) ∙ sym says ∙ ap size_says refused)
 
 -- ---- a record
 
 -- where its rules hold, there is such a record
-pub record-holds : (m : MdLayout) (r c : ℕ) → Hold (recordRules m r c) → IsRecord m r c
-unfolding recordRules
-record-holds m r c h =
-    let (row_from, row-to) = (within-exactly 1 m.rows r).sound h.0 in
-    let (column-from, column-to) = (within-exactly 1 m.columns c).sound h.1.0 in
-    record { row_from = row_from; row-to = row-to; column-from = column-from; column-to = column-to }
+pub record_holds : (m : MdLayout) (r c : ℕ) → Hold (record_rules m r c) → IsRecord m r c
+unfolding record_rules
+record_holds m r c h =
+    let (row_from, row_to) = (within_exactly 1 m.rows r).sound h.0 in
+    let (column_from, column_to) = (within_exactly 1 m.columns c).sound h.1.0 in
+    record { row_from = row_from; row_to = row_to; column_from = column_from; column_to = column_to }
 
 -- and the other way round
-pub holds-record : (m : MdLayout) (r c : ℕ) → IsRecord m r c → Hold (recordRules m r c)
-unfolding recordRules
-holds-record m r c is =
-    also ((within-exactly 1 m.rows r).complete (is.row_from, is.row-to))
-    (also ((within-exactly 1 m.columns c).complete (is.column-from, is.column-to)) tt)
+pub holds_record : (m : MdLayout) (r c : ℕ) → IsRecord m r c → Hold (record_rules m r c)
+unfolding record_rules
+holds_record m r c is =
+    also ((within_exactly 1 m.rows r).complete (is.row_from, is.row_to))
+    (also ((within_exactly 1 m.columns c).complete (is.column_from, is.column_to)) tt)
 
 -- ---- an output that is filled with three parts, of a, b and d elements
 
 module _ {A : Type 0} where
   -- what is copied further, behind what was copied before
-  over-more : (l k out : List A) (i n : ℕ) → length l ≡ i → length k ≡ n
+  over_more : (l k out : List A) (i n : ℕ) → length l ≡ i → length k ≡ n
       → take i (over l out) ++ (k ++ drop n (drop i (over l out))) ≡ over (l ++ k) out
-  over-more l k out i n e h =
+  over_more l k out i n e h =
       let size : length (l ++ k) ≡ i + n = length-append l k ∙ omega arith in
       rw (size, e, take_at l (drop i out) i e, drop_at l (drop i out) i e, drop-drop n i out) (sym (append_assoc l k (drop (i + n) out)))
 
   -- the places of a part of an output into which something was copied
   over-part : (l out now : List A) (i j n : ℕ) → now ≡ over l out → length l ≡ i → j ≡ i + n → j ≤ length out → length (part i (j - i) now) ≡ n
   over-part l out now i j n e size end room =
-      length_part i (j - i) now (omega (arith, ap length e ∙ length_over l out (omega arith))) ∙ omega arith
+      length-part i (j - i) now (omega (arith, ap length e ∙ length-over l out (omega arith))) ∙ omega arith
 
   -- the first part
   module _ (a b d : ℕ) (out p : List A) (room : a + b + d ≤ length out) (first : length p ≡ a) where
@@ -138,8 +138,8 @@ module _ {A : Type 0} where
     first-over = rw first
 
     -- the second has room behind it
-    second-room : length (part a (a + b - a) (p ++ drop a out)) ≡ b
-    second-room = over-part p out (p ++ drop a out) a (a + b) b first-over first refl (omega arith)
+    second_room : length (part a (a + b - a) (p ++ drop a out)) ≡ b
+    second_room = over-part p out (p ++ drop a out) a (a + b) b first-over first refl (omega arith)
 
     -- the second
     module _ (q : List A) (second : length q ≡ b) where
@@ -150,7 +150,7 @@ module _ {A : Type 0} where
       -- both were copied
       second-over : afterSecond ≡ over (p ++ q) out
       second-over =
-          ap (λ (l : List A). take a l ++ (q ++ drop (a + b - a) (drop a l))) first-over ∙ over-more p q out a (a + b - a) first (omega arith)
+          ap (λ (l : List A). take a l ++ (q ++ drop (a + b - a) (drop a l))) first-over ∙ over_more p q out a (a + b - a) first (omega arith)
 
       -- as many elements have both
       both-length : length (p ++ q) ≡ a + b
@@ -165,36 +165,36 @@ module _ {A : Type 0} where
           → take (a + b) afterSecond ++ (s ++ drop (a + b + d - (a + b)) (drop (a + b) afterSecond)) ≡ over (p ++ (q ++ s)) out
       third-over s third =
           ap (λ (l : List A). take (a + b) l ++ (s ++ drop (a + b + d - (a + b)) (drop (a + b) l))) second-over
-          ∙ over-more (p ++ q) s out (a + b) (a + b + d - (a + b)) both-length (omega arith)
+          ∙ over_more (p ++ q) s out (a + b) (a + b + d - (a + b)) both-length (omega arith)
           ∙ ap (λ (l : List A). over l out) (append_assoc p q s)
 
 -- ---- an output that is filled with a record
 
 -- a row header p was copied into the output
 module _ (f : List ℕ) (m : MdLayout) {r c : ℕ} (is : IsRecord m r c) (out : List ℤ) (room : m.row_keys + m.column_keys + m.data_keys ≤ length out)
-    {p : List ℤ} (row : p ≡ partFields f m r 0) where
+    {p : List ℤ} (row : p ≡ part_fields f m r 0) where
   -- a column header has room behind it
   pub column-room : length (part m.row_keys (m.row_keys + m.column_keys - m.row_keys) (p ++ drop m.row_keys out)) ≡ fields_of m 0 c
   column-room =
-      second-room m.row_keys m.column_keys m.data_keys out p room (row-length f m is row) ∙ sym (column-fields m c is.column-from)
+      second_room m.row_keys m.column_keys m.data_keys out p room (row-length f m is row) ∙ sym (column_fields m c is.column_from)
 
   -- a column header q was copied behind it
-  module _ {q : List ℤ} (column : q ≡ partFields f m 0 c) where
+  module _ {q : List ℤ} (column : q ≡ part_fields f m 0 c) where
     -- the output after it
     abbrev headers : List ℤ
     headers =
         afterSecond m.row_keys m.column_keys m.data_keys out p room (row-length f m is row) q (column-length f m is column)
 
     -- data have room behind it
-    pub data-room : length (part (m.row_keys + m.column_keys) (m.row_keys + m.column_keys + m.data_keys - (m.row_keys + m.column_keys)) headers) ≡ fields_of m r c
-    data-room =
+    pub data_room : length (part (m.row_keys + m.column_keys) (m.row_keys + m.column_keys + m.data_keys - (m.row_keys + m.column_keys)) headers) ≡ fields_of m r c
+    data_room =
         third-room m.row_keys m.column_keys m.data_keys out p room (row-length f m is row) q (column-length f m is column)
-        ∙ sym (data-fields m r c is.row_from is.column-from)
+        ∙ sym (data_fields m r c is.row_from is.column_from)
 
     -- with data behind it, the record was copied
-    pub record-over : {s : List ℤ} → s ≡ partFields f m r c
-        → take (m.row_keys + m.column_keys) headers ++ (s ++ drop (m.row_keys + m.column_keys + m.data_keys - (m.row_keys + m.column_keys)) (drop (m.row_keys + m.column_keys) headers)) ≡ over (recordFields f m r c) out
-    unfolding recordFields
-    record-over {s} fields =
-        third-over m.row_keys m.column_keys m.data_keys out p room (row-length f m is row) q (column-length f m is column) s (data-length f m is fields)
+    pub record_over : {s : List ℤ} → s ≡ part_fields f m r c
+        → take (m.row_keys + m.column_keys) headers ++ (s ++ drop (m.row_keys + m.column_keys + m.data_keys - (m.row_keys + m.column_keys)) (drop (m.row_keys + m.column_keys) headers)) ≡ over (record_fields f m r c) out
+    unfolding record_fields
+    record_over {s} fields =
+        third-over m.row_keys m.column_keys m.data_keys out p room (row-length f m is row) q (column-length f m is column) s (data_length f m is fields)
         ∙ (λ t. over (row t ++ (column t ++ fields t)) out)

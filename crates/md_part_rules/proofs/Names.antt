@@ -12,12 +12,12 @@ use lib.ListN.{length, get_or}
 use borrow.Author.Tests.{eq-eqb, ne_eqb}
 use Rattle.lists.specs.Choices.{both}
 use Rattle.lists.specs.Lists.{part, list_of, keep}
-use Rattle.lists.proofs.Parts.{length_part, get_d_part}
-use Rattle.lists.proofs.Kept.{keep_append}
+use Rattle.lists.proofs.Parts.{length-part, get_or-part}
+use Rattle.lists.proofs.Kept.{keep-append}
 use Rattle.refusal_rules.specs.Answers.{gives, refuses}
 use Rattle.refusal_rules.specs.Tests.{same_numbers}
 use Rattle.md_rules.specs.declared.MdLayout.{MdLayout}
-use Rattle.md_part_rules.specs.Keys.{isNamed, positions, firstPosition, keyIn}
+use Rattle.md_part_rules.specs.Keys.{is_named, positions, first_position, key_in}
 
 -- ---- four bytes
 
@@ -31,9 +31,9 @@ four (a ∷ b ∷ c ∷ d ∷ []) e = refl
 four (a ∷ b ∷ c ∷ d ∷ x ∷ l) e = let z : ⊥ = omega arith in absurd z
 
 -- a test that holds adds nothing
-both-true-right : (b : Bool) → both b true ≡ b
-both-true-right true = refl
-both-true-right false = refl
+both_true_right : (b : Bool) → both b true ≡ b
+both_true_right true = refl
+both_true_right false = refl
 
 -- four bytes of a file are a name where each of them is
 pub four_same : (f name : List ℕ) (at : ℕ) → at + 4 ≤ length f → length name ≡ 4
@@ -42,17 +42,17 @@ pub four_same : (f name : List ℕ) (at : ℕ) → at + 4 ≤ length f → lengt
 unfolding same_numbers
 four_same f name at h e =
     let start : at + 0 ≡ at = omega arith in
-    let byte : (i : ℕ) → i < 4 → get_or (part at 4 f) i 0 ≡ get_or f (at + i) 0 = λ i lt. get_d_part at 4 f i 0 lt in
+    let byte : (i : ℕ) → i < 4 → get_or (part at 4 f) i 0 ≡ get_or f (at + i) 0 = λ i lt. get_or-part at 4 f i 0 lt in
     let first : get_or (part at 4 f) 0 0 ≡ get_or f at 0 = byte 0 (omega arith) ∙ ap (λ (a : ℕ). get_or f a 0) start in
     let bytes : part at 4 f ≡ get_or f at 0 ∷ get_or f (at + 1) 0 ∷ get_or f (at + 2) 0 ∷ get_or f (at + 3) 0 ∷ [] =
-    four (part at 4 f) (length_part at 4 f h)
+    four (part at 4 f) (length-part at 4 f h)
     ∙ (λ t. first t ∷ byte 1 (omega arith) t ∷ byte 2 (omega arith) t ∷ byte 3 (omega arith) t ∷ []) in
     sym
     (ap₂ same_numbers bytes (four name e)
     ∙ (λ t.
     both (eqb (get_or f at 0) (get_or name 0 0))
     (both (eqb (get_or f (at + 1) 0) (get_or name 1 0))
-    (both (eqb (get_or f (at + 2) 0) (get_or name 2 0)) (both-true-right (eqb (get_or f (at + 3) 0) (get_or name 3 0)) t)))))
+    (both (eqb (get_or f (at + 2) 0) (get_or name 2 0)) (both_true_right (eqb (get_or f (at + 3) 0) (get_or name 3 0)) t)))))
 
 -- ---- the first of the positions 1 to n that passes a test
 
@@ -78,32 +78,32 @@ module _ (t : ℕ → Bool) where
   none_kept zero none = refl
   none_kept (suc n) none =
       let last : t (suc n) ≡ false = none (suc n) (omega arith) (omega arith) in
-      keep_append t (positions n) (suc n ∷ []) ∙ rw (none_kept n (λ j from lt. none j from (omega arith)), last)
+      keep-append t (positions n) (suc n ∷ []) ∙ rw (none_kept n (λ j from lt. none j from (omega arith)), last)
 
   -- the first that passes is the first that is kept
-  first-kept : (n k : ℕ) → First n k → (ks : List ℕ) × (keep t (positions n) ≡ k ∷ ks)
+  first_kept : (n k : ℕ) → First n k → (ks : List ℕ) × (keep t (positions n) ≡ k ∷ ks)
   unfolding list_of keep
-  first-kept zero k x = let z : ⊥ = omega (arith, x.from, x.to) in absurd z
-  first-kept (suc n) k x =
-      ⊎_elim last (λ lt. earlier (first-kept n k (record { from = x.from; to = omega arith; passes = x.passes; before = x.before })))
+  first_kept zero k x = let z : ⊥ = omega (arith, x.from, x.to) in absurd z
+  first_kept (suc n) k x =
+      ⊎_elim last (λ lt. earlier (first_kept n k (record { from = x.from; to = omega arith; passes = x.passes; before = x.before })))
       (eq-or-lt_of_le x.to)
     where
       last : k ≡ suc n → (ks : List ℕ) × (keep t (positions n ++ suc n ∷ []) ≡ k ∷ ks)
       last e =
           let passes : t (suc n) ≡ true = sym (ap t e) ∙ x.passes in
-          ([], keep_append t (positions n) (suc n ∷ []) ∙ rw (none_kept n (λ j from lt. x.before j from (omega arith)), passes, e))
+          ([], keep-append t (positions n) (suc n ∷ []) ∙ rw (none_kept n (λ j from lt. x.before j from (omega arith)), passes, e))
 
       earlier : (ks : List ℕ) × (keep t (positions n) ≡ k ∷ ks) → (ks : List ℕ) × (keep t (positions n ++ suc n ∷ []) ≡ k ∷ ks)
       earlier found =
-          (found.0 ++ keep t (suc n ∷ []), keep_append t (positions n) (suc n ∷ []) ∙ ap (λ (l : List ℕ). l ++ keep t (suc n ∷ [])) found.1)
+          (found.0 ++ keep t (suc n ∷ []), keep-append t (positions n) (suc n ∷ []) ∙ ap (λ (l : List ℕ). l ++ keep t (suc n ∷ [])) found.1)
 
   -- so it is found
-  pub first_found : (n k : ℕ) → First n k → firstPosition (keep t (positions n)) ≡ gives k
-  first_found n k x = let (ks, e) = first-kept n k x in ap firstPosition e
+  pub first-found : (n k : ℕ) → First n k → first_position (keep t (positions n)) ≡ gives k
+  first-found n k x = let (ks, e) = first_kept n k x in ap first_position e
 
   -- and where none passes, nothing is
-  pub none_found : (n : ℕ) → NoneBelow (n + 1) → firstPosition (keep t (positions n)) ≡ refuses 7 0
-  none_found n none = ap firstPosition (none_kept n none)
+  pub none-found : (n : ℕ) → NoneBelow (n + 1) → first_position (keep t (positions n)) ≡ refuses 7 0
+  none-found n none = ap first_position (none_kept n none)
 
   -- of n positions one is the first that passes, or none passes
   pub first-searched : (n : ℕ) → ((k : ℕ) × First n k) ⊎ NoneBelow (n + 1)
@@ -124,15 +124,15 @@ module _ (t : ℕ → Bool) where
 
 module _ (f : List ℕ) (m : MdLayout) (name : List ℕ) where
   -- a name of four bytes
-  pub name-found : (k : ℕ) → length name ≡ 4 → First (isNamed f name) m.keys k → keyIn f m name ≡ gives k
-  unfolding keyIn
-  name-found k e x = rw (eq-eqb (length name) 4 e) (first_found (isNamed f name) m.keys k x)
+  pub name_found : (k : ℕ) → length name ≡ 4 → First (is_named f name) m.keys k → key_in f m name ≡ gives k
+  unfolding key_in
+  name_found k e x = rw (eq-eqb (length name) 4 e) (first-found (is_named f name) m.keys k x)
 
-  pub name-none : length name ≡ 4 → NoneBelow (isNamed f name) (m.keys + 1) → keyIn f m name ≡ refuses 7 0
-  unfolding keyIn
-  name-none e none = rw (eq-eqb (length name) 4 e) (none_found (isNamed f name) m.keys none)
+  pub name_none : length name ≡ 4 → NoneBelow (is_named f name) (m.keys + 1) → key_in f m name ≡ refuses 7 0
+  unfolding key_in
+  name_none e none = rw (eq-eqb (length name) 4 e) (none-found (is_named f name) m.keys none)
 
   -- of another length
-  pub name-other : ¬ (length name ≡ 4) → keyIn f m name ≡ refuses 7 0
-  unfolding keyIn
-  name-other h = rw (ne_eqb (length name) 4 h)
+  pub name_other : ¬ (length name ≡ 4) → key_in f m name ≡ refuses 7 0
+  unfolding key_in
+  name_other h = rw (ne_eqb (length name) 4 h)

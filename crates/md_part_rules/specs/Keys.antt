@@ -7,30 +7,30 @@ use Rattle.lists.specs.Lists.{part, list_of, keep}
 use Rattle.refusal_rules.specs.Answers.{Answer, gives, refuses, and_then}
 use Rattle.refusal_rules.specs.Tests.{same_numbers}
 use Rattle.md_rules.specs.declared.MdLayout.{MdLayout}
-use Rattle.layout_rules.specs.Found.{mdOf}
+use Rattle.layout_rules.specs.Found.{md_of}
 use Rattle.layout_rules.specs.declared.Layout.{Layout}
 
 -- the name of the key at a position, counted from 1: four bytes in file order
-abbrev pub keyName : List ℕ → ℕ → List ℕ
-keyName f k = part (4 * (464 + (k - 1))) 4 f
+abbrev pub key_name : List ℕ → ℕ → List ℕ
+key_name f k = part (4 * (464 + (k - 1))) 4 f
 
 -- whether the key at a position has the name `name`
-abbrev pub isNamed : List ℕ → List ℕ → ℕ → Bool
-isNamed f name k = same_numbers (keyName f k) name
+abbrev pub is_named : List ℕ → List ℕ → ℕ → Bool
+is_named f name k = same_numbers (key_name f k) name
 
 -- the positions 1 to n
 abbrev pub positions : ℕ → List ℕ
 positions n = list_of suc n
 
 -- the first of a list of positions, or refusal 7 where there is none
-abbrev pub firstPosition : List ℕ → Answer ℕ
-firstPosition [] = refuses 7 0
-firstPosition (k ∷ ks) = gives k
+abbrev pub first_position : List ℕ → Answer ℕ
+first_position [] = refuses 7 0
+first_position (k ∷ ks) = gives k
 
 -- the first of the K positions of an accepted file whose key has a name, or refusal 7: no key has it, or it has another length than four
-unfoldable pub keyIn : List ℕ → MdLayout → List ℕ → Answer ℕ
-keyIn f m name = pick (eqb (length name) 4) (firstPosition (keep (isNamed f name) (positions m.keys))) (refuses 7 0)
+unfoldable pub key_in : List ℕ → MdLayout → List ℕ → Answer ℕ
+key_in f m name = pick (eqb (length name) 4) (first_position (keep (is_named f name) (positions m.keys))) (refuses 7 0)
 
 -- the first position of the key of any file with a layout that has a name, or the refusal
 abbrev pub key_of : List ℕ → Layout → List ℕ → Answer ℕ
-key_of f l name = and_then (mdOf f l) (λ m. keyIn f m name)
+key_of f l name = and_then (md_of f l) (λ m. key_in f m name)

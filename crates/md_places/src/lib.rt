@@ -1,11 +1,11 @@
 // Where the parts and fields of an MD file lie, by a layout alone. A layout may be one that a caller has made up: where a field of it is above the bounds that
 // opening sets, there is no such part or field, and nothing is computed from it.
 ghost use Rattle.std.specs.Prelude.{◌≡◌, ◌≤◌};
-ghost use Rattle.refusal_rules.specs.Rules.{firstFault};
-ghost use Rattle.refusal_rules.specs.Answers.{sizeSays, placeSays};
-ghost use Rattle.md_rules.specs.Bounds.{mdBounded, MdBounds};
-ghost use Rattle.md_rules.specs.Places.{partWord, partRules, partStartOf, fieldRules, fieldPlace};
-ghost use Rattle.md_rules.specs.Fields.{fields_of, fieldWord, IsField};
+ghost use Rattle.refusal_rules.specs.Rules.{first_fault};
+ghost use Rattle.refusal_rules.specs.Answers.{size_says, place_says};
+ghost use Rattle.md_rules.specs.Bounds.{md_bounded, MdBounds};
+ghost use Rattle.md_rules.specs.Places.{part_word, part_rules, part_start_of, field_rules, field_place};
+ghost use Rattle.md_rules.specs.Fields.{fields_of, field_word, IsField};
 
 use md_rules::MdLayout;
 use refusal::{and, check, within};
@@ -13,7 +13,7 @@ use refusal_rules::{NO_SUCH, Place, PlaceAnswer, SizeAnswer, Verdict};
 
 // Whether the fields that MD addresses are computed from are within the bounds that opening sets.
 fn md_bounded(layout: MdLayout) -> bool
-    ensures { result ≡ mdBounded layout }
+    ensures { result ≡ md_bounded layout }
 {
     let headers = and(layout.column_keys <= 400, layout.data_keys <= 400);
     let keys = and(layout.row_keys <= 400, headers);
@@ -23,7 +23,7 @@ fn md_bounded(layout: MdLayout) -> bool
 // The first word of the part of an MD file that coordinates name.
 fn part_word(layout: MdLayout, row: u32, column: u32) -> usize
     requires { MdBounds layout × ((row ≤ layout.rows) × (column ≤ layout.columns)) }
-    ensures { result ≡ partWord layout row column }
+    ensures { result ≡ part_word layout row column }
 {
     if row == 0 {
         if column == 0 {
@@ -40,7 +40,7 @@ fn part_word(layout: MdLayout, row: u32, column: u32) -> usize
 
 // What the rules of the part that coordinates name say: 7 where there is no such row or column.
 fn part_verdict(layout: MdLayout, row: u32, column: u32) -> Verdict
-    ensures { result ≡ firstFault (partRules layout row column) }
+    ensures { result ≡ first_fault (part_rules layout row column) }
 {
     let bounded = check(Verdict::Pass, md_bounded(layout), NO_SUCH, 0);
     let rows = check(bounded, row <= layout.rows, NO_SUCH, 0);
@@ -50,7 +50,7 @@ fn part_verdict(layout: MdLayout, row: u32, column: u32) -> Verdict
 // The word at which the part of an MD file that coordinates name begins: the user record for (0, 0), a row header for (r, 0), a column header for
 // (0, c), data for (r, c). Refused with 7 where there is no such row or column, or the layout is above the bounds that opening sets.
 pub fn part_start(layout: MdLayout, row: u32, column: u32) -> SizeAnswer
-    ensures { sizeSays result ≡ partStartOf layout row column }
+    ensures { size_says result ≡ part_start_of layout row column }
 {
     match part_verdict(layout, row, column) {
         Verdict::Fault(refusal) => SizeAnswer::Refused(refusal),
@@ -75,7 +75,7 @@ fn fields_of(layout: MdLayout, row: u32, column: u32) -> u32
 
 // What the rules of a field of the part that coordinates name say: 7 where there is no such row, column or field.
 fn field_verdict(layout: MdLayout, row: u32, column: u32, position: u32) -> Verdict
-    ensures { result ≡ firstFault (fieldRules layout row column position) }
+    ensures { result ≡ first_fault (field_rules layout row column position) }
 {
     let part = part_verdict(layout, row, column);
     let fields = fields_of(layout, row, column);
@@ -85,7 +85,7 @@ fn field_verdict(layout: MdLayout, row: u32, column: u32, position: u32) -> Verd
 // The word of a field of the part that coordinates name.
 fn field_word(layout: MdLayout, row: u32, column: u32, position: u32) -> usize
     requires { MdBounds layout × IsField layout row column position }
-    ensures { result ≡ fieldWord layout row column position }
+    ensures { result ≡ field_word layout row column position }
 {
     part_word(layout, row, column) + (position - 1) as usize
 }
@@ -93,7 +93,7 @@ fn field_word(layout: MdLayout, row: u32, column: u32, position: u32) -> usize
 // The place of a field of an MD file, named by its coordinates, of which 0 names the headers and the user record, and its position, counted from 1. Refused
 // with 7 where there is no such row, column or position, or the layout is above the bounds that opening sets.
 pub fn field_place(layout: MdLayout, row: u32, column: u32, position: u32) -> PlaceAnswer
-    ensures { placeSays result ≡ fieldPlace layout row column position }
+    ensures { place_says result ≡ field_place layout row column position }
 {
     match field_verdict(layout, row, column, position) {
         Verdict::Fault(refusal) => PlaceAnswer::Refused(refusal),

@@ -1,12 +1,12 @@
 // Complete records of an MD file, copied into a lent output.
 ghost use Rattle.std.specs.Prelude.{◌≡◌, ◌≤◌, length};
 ghost use Rattle.lists.specs.Lists.{over};
-ghost use Rattle.refusal_rules.specs.Rules.{firstFault};
-ghost use Rattle.refusal_rules.specs.Answers.{sizeSays};
+ghost use Rattle.refusal_rules.specs.Rules.{first_fault};
+ghost use Rattle.refusal_rules.specs.Answers.{size_says};
 ghost use Rattle.copy_rules.specs.Runs.{copied};
 ghost use Rattle.md_rules.specs.Accepts.{MdOf};
 ghost use Rattle.md_rules.specs.Fields.{fields_of};
-ghost use Rattle.md_part_rules.specs.Records.{recordRules, partFields, recordFields, IsRecord, recordIn, copyRecord};
+ghost use Rattle.md_part_rules.specs.Records.{record_rules, part_fields, record_fields, IsRecord, record_in, copy_record};
 
 use fresh_layout::md_of;
 use layout_rules::Layout;
@@ -18,7 +18,7 @@ use word_copy_steps::fill_words;
 
 // What the rules of a record of a row and a column say: 7 where there is no such record.
 fn record_verdict(l: MdLayout, row: u32, column: u32) -> Verdict
-    ensures { result ≡ firstFault (recordRules l row column) }
+    ensures { result ≡ first_fault (record_rules l row column) }
 {
     let rows = check(Verdict::Pass, within(1, l.rows, row), NO_SUCH, 0);
     check(rows, within(1, l.columns, column), NO_SUCH, 0)
@@ -28,7 +28,7 @@ fn record_verdict(l: MdLayout, row: u32, column: u32) -> Verdict
 // file has the part, so its start is not refused.
 fn fill_part(file: &[u8], l: MdLayout, row: u32, column: u32, out: &mut [i32])
     requires { MdOf l.order file.now l × ((row ≤ l.rows) × ((column ≤ l.columns) × (length out.old ≡ fields_of l row column))) }
-    ensures { out.new ≡ partFields file.now l row column }
+    ensures { out.new ≡ part_fields file.now l row column }
 {
     let order = l.order;
     match part_start(l, row, column) {
@@ -40,7 +40,7 @@ fn fill_part(file: &[u8], l: MdLayout, row: u32, column: u32, out: &mut [i32])
 // Fills the first places of an output with a record of an accepted file: row header, column header and data.
 fn fill_record(file: &[u8], l: MdLayout, row: u32, column: u32, out: &mut [i32])
     requires { MdOf l.order file.now l × (IsRecord l row column × (l.keys ≤ length out.old)) }
-    ensures { out.new ≡ over (recordFields file.now l row column) out.old }
+    ensures { out.new ≡ over (record_fields file.now l row column) out.old }
 {
     let row_end = l.row_keys as usize;
     let column_end = row_end + l.column_keys as usize;
@@ -53,7 +53,7 @@ fn fill_record(file: &[u8], l: MdLayout, row: u32, column: u32, out: &mut [i32])
 // Copies a record of an accepted file. Refused with 7 where there is no such record, then with 10 where the output is too short.
 fn copy_of(file: &[u8], l: MdLayout, row: u32, column: u32, out: &mut [i32]) -> SizeAnswer
     requires { MdOf l.order file.now l }
-    ensures { (sizeSays result, out.new) ≡ copied (recordIn file.now l row column) out.old }
+    ensures { (size_says result, out.new) ≡ copied (record_in file.now l row column) out.old }
 {
     let keys = l.keys as usize;
     match record_verdict(l, row, column) {
@@ -81,7 +81,7 @@ pub fn copy_record(
     column: u32,
     out: &mut [i32],
 ) -> SizeAnswer
-    ensures { (sizeSays result, out.new) ≡ copyRecord file.now layout row column out.old }
+    ensures { (size_says result, out.new) ≡ copy_record file.now layout row column out.old }
 {
     match md_of(file, layout) {
         MdOpening::Refused(refusal) => SizeAnswer::Refused(refusal),

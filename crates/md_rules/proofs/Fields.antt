@@ -11,10 +11,10 @@ use lib.Dec.{ltb, eqb-suc-zero}
 use borrow.Author.Tests.{lt-ltb, le-ltb}
 use Rattle.lists.specs.Choices.{pick}
 use Rattle.lists.specs.Lists.{Apart}
-use Rattle.lists.proofs.Rows.{row_before}
+use Rattle.lists.proofs.Rows.{row-before}
 use Rattle.endian_rules.proofs.Places.{words-apart}
 use Rattle.md_rules.specs.Accepts.{MdFits}
-use Rattle.md_rules.specs.Fields.{userWord, rowWord, columnWord, dataWord, fields_of, fieldWord, IsField}
+use Rattle.md_rules.specs.Fields.{user_word, row_word, column_word, data_word, fields_of, field_word, IsField}
 use Rattle.md_rules.specs.declared.MdLayout.{MdLayout}
 
 -- ---- n lines of d words each, the first at `start`
@@ -23,17 +23,17 @@ use Rattle.md_rules.specs.declared.MdLayout.{MdLayout}
 record InLines (start d stop x line position : ℕ) : Type 0 where
   low : start ≤ x
   high : x < stop
-  line-is : (x - start) / d ≡ line
-  position-is : (x - start) % d ≡ position
+  line_is : (x - start) / d ≡ line
+  position_is : (x - start) % d ≡ position
 
 in_lines : (start n d stop i j : ℕ) → stop ≡ start + n * d → i < n → j < d → InLines start d stop (start + i * d + j) i j
 in_lines start n d stop i j e h k =
     let along : start + i * d + j - start ≡ i * d + j = omega arith in
     record {
       low = omega arith;
-      high = omega (arith, row_before d i n h);
-      line-is = ap (λ (x : ℕ). x / d) along ∙ digits_div i k;
-      position-is = ap (λ (x : ℕ). x % d) along ∙ digits_mod i k;
+      high = omega (arith, row-before d i n h);
+      line_is = ap (λ (x : ℕ). x / d) along ∙ digits_div i k;
+      position_is = ap (λ (x : ℕ). x % d) along ∙ digits_mod i k;
     }
 
 -- ---- the field that a word is
@@ -71,116 +71,116 @@ from_one n h = omega arith
 
 module _ (l : MdLayout) (k : MdFits l) where
   -- past the header and before the end of the data
-  past-header : (r c f x : ℕ) → 4096 ≤ x → x < l.data_start + l.rows * l.columns * l.data_keys → name_at l x ≡ (r, (c, f)) → Found l r c f x
-  past-header r c f x low high e =
+  past_header : (r c f x : ℕ) → 4096 ≤ x → x < l.data_start + l.rows * l.columns * l.data_keys → name_at l x ≡ (r, (c, f)) → Found l r c f x
+  past_header r c f x low high e =
       record { places = inr low; inside = omega (arith, k.room); small = omega (arith, k.small); name = e }
 
   -- the user record
-  user-found : (f : ℕ) → 1 ≤ f → f ≤ 400 → Found l 0 0 f (userWord f)
+  user_found : (f : ℕ) → 1 ≤ f → f ≤ 400 → Found l 0 0 f (user_word f)
   unfolding name_at
-  user-found f low high =
-      let whole : 4096 ≤ l.data_start = omega (arith, k.column-start, k.data-start) in
-      let first : userWord f < 464 = omega arith in
+  user_found f low high =
+      let whole : 4096 ≤ l.data_start = omega (arith, k.column_start, k.data_start) in
+      let first : user_word f < 464 = omega arith in
       record {
         places = inl (omega arith, first);
         inside = omega (arith, k.room);
         small = omega arith;
-        name = rw (lt-ltb (userWord f) 464 first) (named refl refl (omega arith));
+        name = rw (lt-ltb (user_word f) 464 first) (named refl refl (omega arith));
       }
 
   -- row headers
-  row-found : (r f : ℕ) → 1 ≤ r → r ≤ l.rows → 1 ≤ f → f ≤ l.row_keys → Found l r 0 f (rowWord l r f)
+  row-found : (r f : ℕ) → 1 ≤ r → r ≤ l.rows → 1 ≤ f → f ≤ l.row_keys → Found l r 0 f (row_word l r f)
   unfolding name_at
   row-found r f low high from to =
-      let at : InLines 4096 l.row_keys l.column_start (rowWord l r f) (r - 1) (f - 1) =
-      in_lines 4096 l.rows l.row_keys l.column_start (r - 1) (f - 1) k.column-start (omega arith) (omega arith) in
-      past-header r 0 f (rowWord l r f) at.low (omega (arith, at.high, k.data-start))
-      (rw (le-ltb (rowWord l r f) 464 (omega (arith, at.low)), lt-ltb (rowWord l r f) l.column_start at.high, at.line-is, at.position-is)
+      let at : InLines 4096 l.row_keys l.column_start (row_word l r f) (r - 1) (f - 1) =
+      in_lines 4096 l.rows l.row_keys l.column_start (r - 1) (f - 1) k.column_start (omega arith) (omega arith) in
+      past_header r 0 f (row_word l r f) at.low (omega (arith, at.high, k.data_start))
+      (rw (le-ltb (row_word l r f) 464 (omega (arith, at.low)), lt-ltb (row_word l r f) l.column_start at.high, at.line_is, at.position_is)
       (named (from_one r low) refl (from_one f from)))
 
   -- column headers
-  column-found : (c f : ℕ) → 1 ≤ c → c ≤ l.columns → 1 ≤ f → f ≤ l.column_keys → Found l 0 c f (columnWord l c f)
+  column-found : (c f : ℕ) → 1 ≤ c → c ≤ l.columns → 1 ≤ f → f ≤ l.column_keys → Found l 0 c f (column_word l c f)
   unfolding name_at
   column-found c f low high from to =
-      let at : InLines l.column_start l.column_keys l.data_start (columnWord l c f) (c - 1) (f - 1) =
-      in_lines l.column_start l.columns l.column_keys l.data_start (c - 1) (f - 1) k.data-start (omega arith) (omega arith) in
-      let past : 4096 ≤ columnWord l c f = omega (arith, at.low, k.column-start) in
-      past-header 0 c f (columnWord l c f) past (omega (arith, at.high))
+      let at : InLines l.column_start l.column_keys l.data_start (column_word l c f) (c - 1) (f - 1) =
+      in_lines l.column_start l.columns l.column_keys l.data_start (c - 1) (f - 1) k.data_start (omega arith) (omega arith) in
+      let past : 4096 ≤ column_word l c f = omega (arith, at.low, k.column_start) in
+      past_header 0 c f (column_word l c f) past (omega (arith, at.high))
       (rw (
-        le-ltb (columnWord l c f) 464 (omega (arith, past)),
-        le-ltb (columnWord l c f) l.column_start at.low,
-        lt-ltb (columnWord l c f) l.data_start at.high,
-        at.line-is,
-        at.position-is,
+        le-ltb (column_word l c f) 464 (omega (arith, past)),
+        le-ltb (column_word l c f) l.column_start at.low,
+        lt-ltb (column_word l c f) l.data_start at.high,
+        at.line_is,
+        at.position_is,
       )
       (named refl (from_one c low) (from_one f from)))
 
   -- data
-  data-found : (r c f : ℕ) → 1 ≤ r → r ≤ l.rows → 1 ≤ c → c ≤ l.columns → 1 ≤ f → f ≤ l.data_keys → Found l r c f (dataWord l r c f)
+  data_found : (r c f : ℕ) → 1 ≤ r → r ≤ l.rows → 1 ≤ c → c ≤ l.columns → 1 ≤ f → f ≤ l.data_keys → Found l r c f (data_word l r c f)
   unfolding name_at
-  data-found r c f low high left right from to =
+  data_found r c f low high left right from to =
       let end : ℕ = l.data_start + l.rows * l.columns * l.data_keys in
       let place : ℕ = (r - 1) * l.columns + (c - 1) in
       let last : place < l.rows * l.columns =
-      omega (arith, row_before l.columns (r - 1) l.rows (omega arith)) in
-      let at : InLines l.data_start l.data_keys end (dataWord l r c f) place (f - 1) =
+      omega (arith, row-before l.columns (r - 1) l.rows (omega arith)) in
+      let at : InLines l.data_start l.data_keys end (data_word l r c f) place (f - 1) =
       in_lines l.data_start (l.rows * l.columns) l.data_keys end place (f - 1) refl last (omega arith) in
-      let past : 4096 ≤ dataWord l r c f = omega (arith, at.low, k.column-start, k.data-start) in
-      past-header r c f (dataWord l r c f) past at.high
+      let past : 4096 ≤ data_word l r c f = omega (arith, at.low, k.column_start, k.data_start) in
+      past_header r c f (data_word l r c f) past at.high
       (rw (
-        le-ltb (dataWord l r c f) 464 (omega (arith, past)),
-        le-ltb (dataWord l r c f) l.column_start (omega (arith, at.low, k.data-start)),
-        le-ltb (dataWord l r c f) l.data_start at.low,
-        at.line-is,
-        at.position-is,
+        le-ltb (data_word l r c f) 464 (omega (arith, past)),
+        le-ltb (data_word l r c f) l.column_start (omega (arith, at.low, k.data_start)),
+        le-ltb (data_word l r c f) l.data_start at.low,
+        at.line_is,
+        at.position_is,
         digits_div (r - 1) {m = l.columns} {r = c - 1} (omega arith),
         digits_mod (r - 1) {m = l.columns} {r = c - 1} (omega arith),
       )
       (named (from_one r low) (from_one c left) (from_one f from)))
 
   -- any field
-  field_found : (r c f : ℕ) → IsField l r c f → Found l r c f (fieldWord l r c f)
-  unfolding fieldWord fields_of
-  field_found zero zero f is = user-found f is.from is.to
-  field_found (suc r) zero f is =
+  field-found : (r c f : ℕ) → IsField l r c f → Found l r c f (field_word l r c f)
+  unfolding field_word fields_of
+  field-found zero zero f is = user_found f is.from is.to
+  field-found (suc r) zero f is =
       rw (eqb-suc-zero r) (row-found (suc r) f (omega arith) is.row is.from (rw (eqb-suc-zero r) at is.to))
-  field_found zero (suc c) f is =
+  field-found zero (suc c) f is =
       rw (eqb-suc-zero c) (column-found (suc c) f (omega arith) is.column is.from (rw (eqb-suc-zero c) at is.to))
-  field_found (suc r) (suc c) f is =
+  field-found (suc r) (suc c) f is =
       rw (eqb-suc-zero r, eqb-suc-zero c)
-      (data-found (suc r) (suc c) f (omega arith) is.row (omega arith) is.column is.from (rw (eqb-suc-zero r, eqb-suc-zero c) at is.to))
+      (data_found (suc r) (suc c) f (omega arith) is.row (omega arith) is.column is.from (rw (eqb-suc-zero r, eqb-suc-zero c) at is.to))
 
 -- ---- what is promised of fields
 
 module _ {l : MdLayout} (k : MdFits l) where
   -- a field's word is one of the user record's, or past the header
-  pub field-places : {r c f : ℕ} → IsField l r c f → FieldPlaces (fieldWord l r c f)
-  field-places {r} {c} {f} is = (field_found l k r c f is).places
+  pub field_places : {r c f : ℕ} → IsField l r c f → FieldPlaces (field_word l r c f)
+  field_places {r} {c} {f} is = (field-found l k r c f is).places
 
   -- it is none of the words that opening reads
-  pub field-high : {r c f : ℕ} → IsField l r c f → 64 ≤ fieldWord l r c f
-  field-high is = ⊎_elim (λ user. user.0) (λ past. omega (arith, past)) (field-places is)
+  pub field_high : {r c f : ℕ} → IsField l r c f → 64 ≤ field_word l r c f
+  field_high is = ⊎_elim (λ user. user.0) (λ past. omega (arith, past)) (field_places is)
 
   -- its bytes are inside the file
-  pub field-inside : {r c f : ℕ} → IsField l r c f → 4 * fieldWord l r c f + 4 ≤ l.length
-  field-inside {r} {c} {f} is = (field_found l k r c f is).inside
+  pub field-inside : {r c f : ℕ} → IsField l r c f → 4 * field_word l r c f + 4 ≤ l.length
+  field-inside {r} {c} {f} is = (field-found l k r c f is).inside
 
   -- its number is that of a word that is not negative
-  pub field-small : {r c f : ℕ} → IsField l r c f → fieldWord l r c f < 2147483648
-  field-small {r} {c} {f} is = (field_found l k r c f is).small
+  pub field-small : {r c f : ℕ} → IsField l r c f → field_word l r c f < 2147483648
+  field-small {r} {c} {f} is = (field-found l k r c f is).small
 
   module _ {r c f s d g : ℕ} (x : IsField l r c f) (y : IsField l s d g) where
     -- fields with one word are the same field
-    pub field-only : fieldWord l r c f ≡ fieldWord l s d g → (r ≡ s) × ((c ≡ d) × (f ≡ g))
-    field-only e =
+    pub field_only : field_word l r c f ≡ field_word l s d g → (r ≡ s) × ((c ≡ d) × (f ≡ g))
+    field_only e =
         let same : ◌≡◌ {A = ℕ × (ℕ × ℕ)} (r, (c, f)) (s, (d, g)) =
-        sym (field_found l k r c f x).name ∙ ap (name_at l) e ∙ (field_found l k s d g y).name in
+        sym (field-found l k r c f x).name ∙ ap (name_at l) e ∙ (field-found l k s d g y).name in
         (ap (λ t. t.0) same, (ap (λ t. t.1.0) same, ap (λ t. t.1.1) same))
 
     -- so fields of different columns are different words
-    pub columns-apart : ¬ (c ≡ d) → ¬ (fieldWord l r c f ≡ fieldWord l s d g)
-    columns-apart other e = other (field-only e).1.0
+    pub columns-apart : ¬ (c ≡ d) → ¬ (field_word l r c f ≡ field_word l s d g)
+    columns-apart other e = other (field_only e).1.0
 
     -- and different fields share no byte
-    pub fields-apart : ¬ ((r ≡ s) × ((c ≡ d) × (f ≡ g))) → Apart (4 * fieldWord l r c f) 4 (4 * fieldWord l s d g) 4
-    fields-apart other = words-apart (fieldWord l r c f) (fieldWord l s d g) (λ e. other (field-only e))
+    pub fields_apart : ¬ ((r ≡ s) × ((c ≡ d) × (f ≡ g))) → Apart (4 * field_word l r c f) 4 (4 * field_word l s d g) 4
+    fields_apart other = words-apart (field_word l r c f) (field_word l s d g) (λ e. other (field_only e))

@@ -3,7 +3,7 @@
 use Rattle.std.specs.Prelude.{◌≡◌, List, ℕ, ◌+◌, ◌*◌, ◌/◌, ◌≤◌, ◌<◌, length}
 use Rattle.endian_rules.specs.Words.{AtLeast}
 use Rattle.endian_rules.specs.declared.Order.{Order}
-use Rattle.md_rules.specs.Rules.{mdDataEnd}
+use Rattle.md_rules.specs.Rules.{md_data_end}
 use Rattle.md_rules.specs.declared.MdLayout.{MdLayout}
 
 -- An MD file of `len` bytes whose raw words are w is accepted, one field a rule. A count, or a word with a rule, is below 2 ^ 31, and so it is
@@ -13,38 +13,38 @@ pub record AcceptsMd (len : ℕ) (w : ℕ → ℕ) : Type 0 where
   pub rows : (1 ≤ w 3) × (w 3 ≤ 65535)
   pub columns : (1 ≤ w 4) × (w 4 ≤ 1600000)
   pub keys : (1 ≤ w 5) × (w 5 ≤ 400)
-  pub row-keys : (0 ≤ w 6) × (w 6 ≤ 400)
-  pub column-keys : (0 ≤ w 7) × (w 7 ≤ 400)
-  pub data-keys : (1 ≤ w 8) × (w 8 ≤ 400)
+  pub row_keys : (0 ≤ w 6) × (w 6 ≤ 400)
+  pub column_keys : (0 ≤ w 7) × (w 7 ≤ 400)
+  pub data_keys : (1 ≤ w 8) × (w 8 ≤ 400)
   pub sum : w 5 ≡ w 6 + w 7 + w 8
-  pub word-9 : w 9 ≡ w 6 + 1
-  pub word-10 : w 10 ≡ w 6 + w 7 + 1
-  pub word-27 : w 27 ≡ 4096
-  pub word-28 : w 28 ≡ 4096 + w 3 * w 6
-  pub word-29 : w 29 ≡ w 28 + w 4 * w 7
-  pub word-31 : w 31 ≡ 64
-  pub word-32 : w 32 ≡ 464
-  pub word-33 : w 33 ≡ 864
-  pub word-34 : w 34 ≡ 1264
-  pub word-30 : AtLeast (mdDataEnd w) (w 30)
+  pub word_9 : w 9 ≡ w 6 + 1
+  pub word_10 : w 10 ≡ w 6 + w 7 + 1
+  pub word_27 : w 27 ≡ 4096
+  pub word_28 : w 28 ≡ 4096 + w 3 * w 6
+  pub word_29 : w 29 ≡ w 28 + w 4 * w 7
+  pub word_31 : w 31 ≡ 64
+  pub word_32 : w 32 ≡ 464
+  pub word_33 : w 33 ≡ 864
+  pub word_34 : w 34 ≡ 1264
+  pub word_30 : AtLeast (md_data_end w) (w 30)
   pub inside : w 30 ≤ len / 4
 
 -- What is known of the layout of an accepted MD file: both bounds of every field, where the parts begin, and that they are inside the file. Every
 -- later address rests on this, and not on the rules.
 pub record MdFits (l : MdLayout) : Type 0 where
-  pub rows-from : 1 ≤ l.rows
-  pub rows-to : l.rows ≤ 65535
-  pub columns-from : 1 ≤ l.columns
-  pub columns-to : l.columns ≤ 1600000
+  pub rows_from : 1 ≤ l.rows
+  pub rows_to : l.rows ≤ 65535
+  pub columns_from : 1 ≤ l.columns
+  pub columns_to : l.columns ≤ 1600000
   pub keys_from : 1 ≤ l.keys
-  pub keys-to : l.keys ≤ 400
-  pub row-keys-to : l.row_keys ≤ 400
-  pub column-keys-to : l.column_keys ≤ 400
-  pub data-keys-from : 1 ≤ l.data_keys
-  pub data-keys-to : l.data_keys ≤ 400
+  pub keys_to : l.keys ≤ 400
+  pub row_keys_to : l.row_keys ≤ 400
+  pub column_keys_to : l.column_keys ≤ 400
+  pub data_keys_from : 1 ≤ l.data_keys
+  pub data_keys_to : l.data_keys ≤ 400
   pub sum : l.keys ≡ l.row_keys + l.column_keys + l.data_keys
-  pub column-start : l.column_start ≡ 4096 + l.rows * l.row_keys
-  pub data-start : l.data_start ≡ l.column_start + l.columns * l.column_keys
+  pub column_start : l.column_start ≡ 4096 + l.rows * l.row_keys
+  pub data_start : l.data_start ≡ l.column_start + l.columns * l.column_keys
   -- the data end inside the file, and below 2 ^ 31
   pub room : 4 * (l.data_start + l.rows * l.columns * l.data_keys) ≤ l.length
   pub small : l.data_start + l.rows * l.columns * l.data_keys < 2147483648

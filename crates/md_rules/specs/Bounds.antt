@@ -6,8 +6,8 @@ use Rattle.lists.specs.Choices.{both}
 use Rattle.md_rules.specs.declared.MdLayout.{MdLayout}
 
 -- whether rows, columns, and the keys of row headers, column headers and data of a layout are at most what opening accepts
-unfoldable pub mdBounded : MdLayout → Bool
-mdBounded l =
+unfoldable pub md_bounded : MdLayout → Bool
+md_bounded l =
     both (leb l.rows 65535)
     (both (leb l.columns 1600000)
     (both (leb l.row_keys 400) (both (leb l.column_keys 400) (leb l.data_keys 400))))
@@ -16,6 +16,6 @@ mdBounded l =
 pub record MdBounds (l : MdLayout) : Type 0 where
   pub rows : l.rows ≤ 65535
   pub columns : l.columns ≤ 1600000
-  pub row-keys : l.row_keys ≤ 400
-  pub column-keys : l.column_keys ≤ 400
-  pub data-keys : l.data_keys ≤ 400
+  pub row_keys : l.row_keys ≤ 400
+  pub column_keys : l.column_keys ≤ 400
+  pub data_keys : l.data_keys ≤ 400

@@ -1,24 +1,24 @@
 -- What opening an MD file answers: document 01, "What comes back".
 -- Assumes nothing.
 use Rattle.std.specs.Prelude.{Bool, List, [], ◌∷◌, ℕ, length}
-use Rattle.endian_rules.specs.Words.{word_at, orderNumber}
+use Rattle.endian_rules.specs.Words.{word_at, order_number}
 use Rattle.endian_rules.specs.declared.Order.{Order}
-use Rattle.refusal_rules.specs.Rules.{firstFault}
+use Rattle.refusal_rules.specs.Rules.{first_fault}
 use Rattle.refusal_rules.specs.Answers.{Answer, gives, refuses, answered}
 use Rattle.refusal_rules.specs.Tests.{same_numbers}
-use Rattle.md_rules.specs.Rules.{mdRules}
+use Rattle.md_rules.specs.Rules.{md_rules}
 use Rattle.md_rules.specs.declared.MdLayout.{MdLayout}
 use Rattle.md_rules.specs.declared.MdOpening.{MdOpening}
 use Rattle.md_rules.specs.declared.MdOpening.TheVariants.{Opened, Refused}
 
 -- what each case of the answer of opening an MD file says
-abbrev pub mdSays : MdOpening → Answer MdLayout
-mdSays (Opened l) = gives l
-mdSays (Refused r) = refuses r.number r.place
+abbrev pub md_says : MdOpening → Answer MdLayout
+md_says (Opened l) = gives l
+md_says (Refused r) = refuses r.number r.place
 
 -- the layout that the words of a file of `len` bytes give: "R, C, K, a, b, d, words 28 and 29"
-unfoldable pub mdLayoutOf : Order → ℕ → (ℕ → ℕ) → MdLayout
-mdLayoutOf o len w =
+unfoldable pub md_layout_of : Order → ℕ → (ℕ → ℕ) → MdLayout
+md_layout_of o len w =
     record {
       order = o;
       length = len;
@@ -33,17 +33,17 @@ mdLayoutOf o len w =
     }
 
 -- opening a file of `len` bytes, by its raw words
-unfoldable pub openMdWords : Order → ℕ → (ℕ → ℕ) → Answer MdLayout
-openMdWords o len w = answered (firstFault (mdRules len w)) (mdLayoutOf o len w)
+unfoldable pub open_md_words : Order → ℕ → (ℕ → ℕ) → Answer MdLayout
+open_md_words o len w = answered (first_fault (md_rules len w)) (md_layout_of o len w)
 
 -- opening an MD file in a byte order
-unfoldable pub openMd : Order → List ℕ → Answer MdLayout
-openMd o f = openMdWords o (length f) (word_at o f)
+unfoldable pub open_md : Order → List ℕ → Answer MdLayout
+open_md o f = open_md_words o (length f) (word_at o f)
 
 -- the fields of an MD layout as numbers
-abbrev pub mdNumbers : MdLayout → List ℕ
-mdNumbers l =
-    orderNumber l.order
+abbrev pub md_numbers : MdLayout → List ℕ
+md_numbers l =
+    order_number l.order
     ∷ l.length
     ∷ l.rows
     ∷ l.columns
@@ -56,5 +56,5 @@ mdNumbers l =
     ∷ []
 
 -- whether two MD layouts are the same in every field
-unfoldable pub sameMd : MdLayout → MdLayout → Bool
-sameMd a b = same_numbers (mdNumbers a) (mdNumbers b)
+unfoldable pub same_md : MdLayout → MdLayout → Bool
+same_md a b = same_numbers (md_numbers a) (md_numbers b)

@@ -8,57 +8,57 @@ use Rattle.refusal_rules.specs.Rules.{Rule, rule}
 use Rattle.refusal_rules.specs.Tests.{within}
 
 -- the rule of a count: word k is within its bounds, and refusal 3 at the word where it is not
-abbrev pub mdCount : (ℕ → ℕ) → ℕ → ℕ → ℕ → Rule
-mdCount w k low high = rule (within low high (w k)) 3 k
+abbrev pub md_count : (ℕ → ℕ) → ℕ → ℕ → ℕ → Rule
+md_count w k low high = rule (within low high (w k)) 3 k
 
 -- the rule of a word that has to be n: refusal 4 at the word where it is not
-abbrev pub mdEqual : (ℕ → ℕ) → ℕ → ℕ → Rule
-mdEqual w k n = rule (eqb (w k) n) 4 k
+abbrev pub md_equal : (ℕ → ℕ) → ℕ → ℕ → Rule
+md_equal w k n = rule (eqb (w k) n) 4 k
 
 -- the rules of "the counts 3, 4, 5, 6, 7, 8"
-unfoldable pub mdCountRules : (ℕ → ℕ) → List Rule
-mdCountRules w =
-    mdCount w 3 1 65535
-    ∷ mdCount w 4 1 1600000
-    ∷ mdCount w 5 1 400
-    ∷ mdCount w 6 0 400
-    ∷ mdCount w 7 0 400
-    ∷ mdCount w 8 1 400
+unfoldable pub md_count_rules : (ℕ → ℕ) → List Rule
+md_count_rules w =
+    md_count w 3 1 65535
+    ∷ md_count w 4 1 1600000
+    ∷ md_count w 5 1 400
+    ∷ md_count w 6 0 400
+    ∷ md_count w 7 0 400
+    ∷ md_count w 8 1 400
     ∷ []
 
 -- the rules of the words that follow from the counts: "K = a+b+d (place 5); word 9 = a+1; word 10 = a+b+1; word 27 = 4096; word 28 = 4096 + R·a; word 29 = word
 -- 28 + C·b"
-unfoldable pub mdSumRules : (ℕ → ℕ) → List Rule
-mdSumRules w =
-    mdEqual w 5 (w 6 + w 7 + w 8)
-    ∷ mdEqual w 9 (w 6 + 1)
-    ∷ mdEqual w 10 (w 6 + w 7 + 1)
-    ∷ mdEqual w 27 4096
-    ∷ mdEqual w 28 (4096 + w 3 * w 6)
-    ∷ mdEqual w 29 (w 28 + w 4 * w 7)
+unfoldable pub md_sum_rules : (ℕ → ℕ) → List Rule
+md_sum_rules w =
+    md_equal w 5 (w 6 + w 7 + w 8)
+    ∷ md_equal w 9 (w 6 + 1)
+    ∷ md_equal w 10 (w 6 + w 7 + 1)
+    ∷ md_equal w 27 4096
+    ∷ md_equal w 28 (4096 + w 3 * w 6)
+    ∷ md_equal w 29 (w 28 + w 4 * w 7)
     ∷ []
 
 -- the rules of the words that are the same in every file: "words 31, 32, 33 and 34 hold 64, 464, 864 and 1264"
-unfoldable pub mdFixedRules : (ℕ → ℕ) → List Rule
-mdFixedRules w =
-    mdEqual w 31 64
-    ∷ mdEqual w 32 464
-    ∷ mdEqual w 33 864
-    ∷ mdEqual w 34 1264
+unfoldable pub md_fixed_rules : (ℕ → ℕ) → List Rule
+md_fixed_rules w =
+    md_equal w 31 64
+    ∷ md_equal w 32 464
+    ∷ md_equal w 33 864
+    ∷ md_equal w 34 1264
     ∷ []
 
 -- the word after the data: "word 29 + R·C·d"
-abbrev pub mdDataEnd : (ℕ → ℕ) → ℕ
-mdDataEnd w = w 29 + w 3 * w 4 * w 8
+abbrev pub md_data_end : (ℕ → ℕ) → ℕ
+md_data_end w = w 29 + w 3 * w 4 * w 8
 
 -- the rules of word 30 in a file of `len` bytes: "word 30 at least word 29 + R·C·d and at most the file's whole words"; "4, but 5 where word 30 only passes the
 -- file's end"
-unfoldable pub mdEndRules : ℕ → (ℕ → ℕ) → List Rule
-mdEndRules len w =
-    rule (at_least (mdDataEnd w) (w 30)) 4 30
+unfoldable pub md_end_rules : ℕ → (ℕ → ℕ) → List Rule
+md_end_rules len w =
+    rule (at_least (md_data_end w) (w 30)) 4 30
     ∷ rule (leb (w 30) (len / 4)) 5 30
     ∷ []
 
 -- the checks of an MD file of `len` bytes, in their order
-unfoldable pub mdRules : ℕ → (ℕ → ℕ) → List Rule
-mdRules len w = rule (leb 16384 len) 1 0 ∷ (mdCountRules w ++ (mdSumRules w ++ (mdFixedRules w ++ mdEndRules len w)))
+unfoldable pub md_rules : ℕ → (ℕ → ℕ) → List Rule
+md_rules len w = rule (leb 16384 len) 1 0 ∷ (md_count_rules w ++ (md_sum_rules w ++ (md_fixed_rules w ++ md_end_rules len w)))

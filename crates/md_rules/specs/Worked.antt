@@ -5,13 +5,13 @@ use Rattle.std.specs.Prelude.{◌≡◌, List, [], ◌∷◌, ◌++◌, ℕ, ◌
 use Rattle.endian_rules.specs.Files.{given, bytes_of}
 use Rattle.endian_rules.specs.declared.Order.TheVariants.{Big}
 use Rattle.refusal_rules.specs.Answers.{gives}
-use Rattle.md_rules.specs.Opening.{openMd}
-use Rattle.md_rules.specs.Fields.{fieldWord}
+use Rattle.md_rules.specs.Opening.{open_md}
+use Rattle.md_rules.specs.Fields.{field_word}
 use Rattle.md_rules.specs.declared.MdLayout.{MdLayout}
 
 -- M, but for word 28
-unfoldable pub fileM : ℕ → List ℕ
-fileM word28 =
+unfoldable pub file_m : ℕ → List ℕ
+file_m word28 =
     bytes_of Big
     (given 64
     ((3, 2)
@@ -35,11 +35,11 @@ fileM word28 =
 
 -- the worked file M
 unfoldable pub M : List ℕ
-M = fileM 4100
+M = file_m 4100
 
 -- the layout of M
-unfoldable pub layoutM : MdLayout
-layoutM =
+unfoldable pub layout_m : MdLayout
+layout_m =
     record {
       order = Big;
       length = 16484;
@@ -56,8 +56,8 @@ layoutM =
 -- M has the size that document 01 gives, and opening it gives its layout
 pub record WorkedMd : Type 0 where
   pub size : length M ≡ 16484
-  pub M-opens : openMd Big M ≡ gives layoutM
+  pub m_opens : open_md Big M ≡ gives layout_m
   -- key 1 of the records (2,1) and (2,3) is field 1 of row header 2, one word whatever the column
-  pub M-key : fieldWord layoutM 2 0 1 ≡ 4098
+  pub m_key : field_word layout_m 2 0 1 ≡ 4098
   -- the data of (1,2) come next after those of (1,1): rows are outermost
-  pub M-next-column : fieldWord layoutM 1 2 1 ≡ fieldWord layoutM 1 1 3 + 1
+  pub m_next-column : field_word layout_m 1 2 1 ≡ field_word layout_m 1 1 3 + 1

@@ -3,8 +3,8 @@
 // The callers find out where the numbers lie; they must make sure that these are inside the file.
 ghost use Rattle.std.specs.Prelude.{◌≡◌, ℕ, ◌+◌, ◌*◌, ◌≤◌, ◌<◌, length};
 ghost use Rattle.endian_rules.specs.declared.Order.TheVariants.{Big};
-ghost use Rattle.refusal_rules.specs.Answers.{gives, sizeSays};
-ghost use Rattle.copy_rules.specs.Runs.{numbersAt, copied};
+ghost use Rattle.refusal_rules.specs.Answers.{gives, size_says};
+ghost use Rattle.copy_rules.specs.Runs.{numbers_at, copied};
 
 use copy_rules::Strided;
 use endian_rules::Order;
@@ -14,7 +14,7 @@ use refusal_rules::{Refusal, SHORT_OUTPUT, SizeAnswer};
 // Fills an output with unsigned numbers, one a turn.
 fn numbers_singly(order: Order, width: usize, file: &[u8], at: usize, step: usize, out: &mut [u32])
     requires { (width ≤ 4) × ((i : ℕ) → i < length out.old → at + i * step + width ≤ length file.now) }
-    ensures { out.new ≡ numbersAt order width file.now at step (length out.old) }
+    ensures { out.new ≡ numbers_at order width file.now at step (length out.old) }
 {
     let n = out.len();
     let mut i = 0;
@@ -28,7 +28,7 @@ fn numbers_singly(order: Order, width: usize, file: &[u8], at: usize, step: usiz
 // Fills an output of four places with unsigned numbers in big order.
 fn four_numbers(width: usize, file: &[u8], at: usize, step: usize, out: &mut [u32])
     requires { (length out.old ≡ 4) × ((width ≤ 4) × (at + 3 * step + width ≤ length file.now)) }
-    ensures { out.new ≡ numbersAt Big width file.now at step 4 }
+    ensures { out.new ≡ numbers_at Big width file.now at step 4 }
 {
     let a = read_number(Order::Big, width, file, at);
     let b = read_number(Order::Big, width, file, at + step);
@@ -43,7 +43,7 @@ fn four_numbers(width: usize, file: &[u8], at: usize, step: usize, out: &mut [u3
 // Fills an output with unsigned numbers in big order, four a turn, and the last ones singly.
 fn numbers_by_fours(width: usize, file: &[u8], at: usize, step: usize, out: &mut [u32])
     requires { (width ≤ 4) × ((i : ℕ) → i < length out.old → at + i * step + width ≤ length file.now) }
-    ensures { out.new ≡ numbersAt Big width file.now at step (length out.old) }
+    ensures { out.new ≡ numbers_at Big width file.now at step (length out.old) }
 {
     let n = out.len();
     let mut i = 0;
@@ -60,7 +60,7 @@ fn numbers_by_fours(width: usize, file: &[u8], at: usize, step: usize, out: &mut
 // numbers a turn.
 fn fill_numbers(order: Order, width: usize, file: &[u8], at: usize, step: usize, out: &mut [u32])
     requires { (width ≤ 4) × ((i : ℕ) → i < length out.old → at + i * step + width ≤ length file.now) }
-    ensures { out.new ≡ numbersAt order width file.now at step (length out.old) }
+    ensures { out.new ≡ numbers_at order width file.now at step (length out.old) }
 {
     match width {
         1 => numbers_singly(order, 1, file, at, step, out),
@@ -86,7 +86,7 @@ pub fn copy_numbers(
     out: &mut [u32],
 ) -> SizeAnswer
     requires { (width ≤ 4) × ((i : ℕ) → i < run.count → run.at + i * run.step + width ≤ length file.now) }
-    ensures { (sizeSays result, out.new) ≡ copied (gives (numbersAt order width file.now run.at run.step run.count)) out.old }
+    ensures { (size_says result, out.new) ≡ copied (gives (numbers_at order width file.now run.at run.step run.count)) out.old }
 {
     let count = run.count;
     if out.len() < count {

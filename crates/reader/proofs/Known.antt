@@ -25,20 +25,20 @@ use Rattle.reader.specs.contracts.Reader as Reader
 use Rattle.reader.proofs.Reader.TheLaws as Reader'
 
 -- a layout's machine values
-abbrev pub layout-vals : Layout → List Val
-layout-vals = EL.vals Y.the_type Y'.the_laws
+abbrev pub layout_vals : Layout → List Val
+layout_vals = EL.vals Y.the_type Y'.the_laws
 
 module _ {n : ℕ} where
   -- a u32
-  abbrev pub a-number : Known n
-  a-number = uint w32
+  abbrev pub a_number : Known n
+  a_number = uint w32
 
   -- a layout, a slot or band and a block
-  abbrev pub a-layout : Known n
-  a-layout = one_of Y.the_type Y'.the_laws tt
+  abbrev pub a_layout : Known n
+  a_layout = one_of Y.the_type Y'.the_laws tt
 
-  abbrev pub a-slot-or-band : Known n
-  a-slot-or-band = one_of SlotOrBand.the_type SlotOrBand'.the_laws tt
+  abbrev pub a_slot_or_band : Known n
+  a_slot_or_band = one_of SlotOrBand.the_type SlotOrBand'.the_laws tt
 
   abbrev pub a_block : Known n
   a_block = one_of Block.the_type Block'.the_laws tt
@@ -49,8 +49,8 @@ module _ {m : ℕ} where
   bytes = shared 0 tt u8
 
   -- a reader
-  abbrev pub a-reader : Known (suc m)
-  a-reader = record {
+  abbrev pub a_reader : Known (suc m)
+  a_reader = record {
     slot = plain (λ κs. Reader.the_row (named_lft (suc m) 0 tt κs));
     vals = λ κs. LL.vals (Reader.the_type (named_lft (suc m) 0 tt κs)) (Reader'.the_laws (named_lft (suc m) 0 tt κs));
     tell = λ κs. LL.tells (Reader.the_type (named_lft (suc m) 0 tt κs)) (Reader'.the_laws (named_lft (suc m) 0 tt κs));

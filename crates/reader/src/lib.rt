@@ -1,11 +1,11 @@
 // A file and a layout carried together as one thing, and the calls that read through it.
 ghost use Rattle.std.specs.Prelude.{◌≡◌};
-ghost use Rattle.refusal_rules.specs.Answers.{numberSays, wordSays, sizeSays};
-ghost use Rattle.span_rules.specs.Spans.{lentBytes, thatPart};
-ghost use Rattle.area_part_rules.specs.Blocks.{blockSpan};
-ghost use Rattle.area_part_rules.specs.Lines.{copyLine};
-ghost use Rattle.grid_part_rules.specs.Grids.{copyByRows};
-ghost use Rattle.value_rules.specs.Reading.{readSample, readPoint, readField};
+ghost use Rattle.refusal_rules.specs.Answers.{number_says, word_says, size_says};
+ghost use Rattle.span_rules.specs.Spans.{lent_bytes, that_part};
+ghost use Rattle.area_part_rules.specs.Blocks.{block_span};
+ghost use Rattle.area_part_rules.specs.Lines.{copy_line};
+ghost use Rattle.grid_part_rules.specs.Grids.{copy_by_rows};
+ghost use Rattle.value_rules.specs.Reading.{read_sample, read_point, read_field};
 
 use area_blocks::block_bytes;
 use area_rules::{Block, SlotOrBand};
@@ -31,14 +31,14 @@ pub fn new<'a>(file: &'a [u8], layout: Layout) -> Reader<'a>
 // The sample of a line and an element, both counted from 0, and a slot or band of an AREA file: an unsigned number. Refused as
 // `reads::read_sample`.
 pub fn sample<'a>(r: Reader<'a>, line: u32, element: u32, which: SlotOrBand) -> NumberAnswer
-    ensures { numberSays result ≡ readSample r.entry.file.now r.entry.layout line element which }
+    ensures { number_says result ≡ read_sample r.entry.file.now r.entry.layout line element which }
 {
     read_sample(r.file, r.layout, line, element, which)
 }
 
 // The point of a row and a column, both counted from 1, of a grid: a signed word. Refused as `reads::read_point`.
 pub fn point<'a>(r: Reader<'a>, row: u32, column: u32) -> WordAnswer
-    ensures { wordSays result ≡ readPoint r.entry.file.now r.entry.layout row column }
+    ensures { word_says result ≡ read_point r.entry.file.now r.entry.layout row column }
 {
     read_point(r.file, r.layout, row, column)
 }
@@ -46,14 +46,14 @@ pub fn point<'a>(r: Reader<'a>, row: u32, column: u32) -> WordAnswer
 // The field at a position, counted from 1, of the part of an MD file that coordinates name: a signed word. Refused as
 // `reads::read_field`.
 pub fn field<'a>(r: Reader<'a>, row: u32, column: u32, position: u32) -> WordAnswer
-    ensures { wordSays result ≡ readField r.entry.file.now r.entry.layout row column position }
+    ensures { word_says result ≡ read_field r.entry.file.now r.entry.layout row column position }
 {
     read_field(r.file, r.layout, row, column, position)
 }
 
 // A block of an AREA file, handed back as that part of the file; empty where `area_blocks::block_span` refuses.
 pub fn block<'a>(r: Reader<'a>, block: Block) -> &'a [u8]
-    ensures { lentBytes result ≡ thatPart r.entry.file (blockSpan r.entry.file.now r.entry.layout block) }
+    ensures { lent_bytes result ≡ that_part r.entry.file (block_span r.entry.file.now r.entry.layout block) }
 {
     block_bytes(r.file, r.layout, block)
 }
@@ -61,7 +61,7 @@ pub fn block<'a>(r: Reader<'a>, block: Block) -> &'a [u8]
 // Copies one slot, or one band, of one line, counted from 0, of an AREA file into the first places of a lent output of unsigned numbers, and answers how many
 // it wrote. Refused as `area_lines::copy_line`. A refused copy writes nothing.
 pub fn copy_line<'a>(r: Reader<'a>, line: u32, which: SlotOrBand, out: &mut [u32]) -> SizeAnswer
-    ensures { (sizeSays result, out.new) ≡ copyLine r.entry.file.now r.entry.layout line which out.old }
+    ensures { (size_says result, out.new) ≡ copy_line r.entry.file.now r.entry.layout line which out.old }
 {
     area_lines::copy_line(r.file, r.layout, line, which, out)
 }
@@ -69,7 +69,7 @@ pub fn copy_line<'a>(r: Reader<'a>, line: u32, which: SlotOrBand, out: &mut [u32
 // Copies a grid, row by row, into the first places of a lent output of signed words, and answers how many it wrote. Refused as `grid_copies::copy_by_rows`. A
 // refused copy writes nothing.
 pub fn copy_by_rows<'a>(r: Reader<'a>, out: &mut [i32]) -> SizeAnswer
-    ensures { (sizeSays result, out.new) ≡ copyByRows r.entry.file.now r.entry.layout out.old }
+    ensures { (size_says result, out.new) ≡ copy_by_rows r.entry.file.now r.entry.layout out.old }
 {
     grid_copies::copy_by_rows(r.file, r.layout, out)
 }
@@ -83,7 +83,7 @@ pub fn read_through(
     element: u32,
     which: SlotOrBand,
 ) -> NumberAnswer
-    ensures { numberSays result ≡ readSample file.now layout line element which }
+    ensures { number_says result ≡ read_sample file.now layout line element which }
 {
     sample(new(file, layout), line, element, which)
 }

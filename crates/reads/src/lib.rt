@@ -1,7 +1,7 @@
 // The single read of a value of every kind, and where a named value lies in a file.
 ghost use Rattle.std.specs.Prelude.{◌≡◌};
-ghost use Rattle.refusal_rules.specs.Answers.{placeSays, numberSays, wordSays};
-ghost use Rattle.value_rules.specs.Reading.{place_in, readSample, IsWord, readWord, readPoint, readField};
+ghost use Rattle.refusal_rules.specs.Answers.{place_says, number_says, word_says};
+ghost use Rattle.value_rules.specs.Reading.{place_in, read_sample, IsWord, read_word, read_point, read_field};
 
 use area_rules::SlotOrBand;
 use endian_steps::{read_number, read_signed};
@@ -14,7 +14,7 @@ use value_rules::ValueName;
 // Where a named value lies in a file. Refused with 9 where the layout is stale, then with 7 where it is of another kind than the name, then with 4 at 19 where
 // a band is named and the band map is unusable, then with 7 where there is no such line, element, slot, band, point or field.
 pub fn place_in(file: &[u8], layout: Layout, name: ValueName) -> PlaceAnswer
-    ensures { placeSays result ≡ place_in file.now layout name }
+    ensures { place_says result ≡ place_in file.now layout name }
 {
     if is_fresh(file, layout) {
         place_of(layout, name)
@@ -34,7 +34,7 @@ pub fn read_sample(
     element: u32,
     which: SlotOrBand,
 ) -> NumberAnswer
-    ensures { numberSays result ≡ readSample file.now layout line element which }
+    ensures { number_says result ≡ read_sample file.now layout line element which }
 {
     let order = order_of(layout);
     let name = ValueName::Sample {
@@ -56,7 +56,7 @@ pub fn read_sample(
 // The signed word of a point or a field.
 fn read_word_of(file: &[u8], layout: Layout, name: ValueName) -> WordAnswer
     requires { IsWord name }
-    ensures { wordSays result ≡ readWord file.now layout name }
+    ensures { word_says result ≡ read_word file.now layout name }
 {
     let order = order_of(layout);
     match place_in(file, layout, name) {
@@ -67,7 +67,7 @@ fn read_word_of(file: &[u8], layout: Layout, name: ValueName) -> WordAnswer
 
 // The point of a row and a column, both counted from 1, of a grid: a signed word. Refused as `place_in`.
 pub fn read_point(file: &[u8], layout: Layout, row: u32, column: u32) -> WordAnswer
-    ensures { wordSays result ≡ readPoint file.now layout row column }
+    ensures { word_says result ≡ read_point file.now layout row column }
 {
     read_word_of(
         file,
@@ -81,7 +81,7 @@ pub fn read_point(file: &[u8], layout: Layout, row: u32, column: u32) -> WordAns
 
 // The field at a position, counted from 1, of the part of an MD file that coordinates name: a signed word. Refused as `place_in`.
 pub fn read_field(file: &[u8], layout: Layout, row: u32, column: u32, position: u32) -> WordAnswer
-    ensures { wordSays result ≡ readField file.now layout row column position }
+    ensures { word_says result ≡ read_field file.now layout row column position }
 {
     read_word_of(
         file,

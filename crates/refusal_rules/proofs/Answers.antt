@@ -5,8 +5,8 @@ use mathlib.Core.Logic.{◌↔◌}
 use mathlib.Core.List.{List, ◌∷◌}
 use Prim.Native.Nat.{ℕ, ◌<◌}
 use native.Mathlib.Omega.{arith}
-use Rattle.refusal_rules.specs.Rules.{Rule, firstFault, Every, Hold, Give, FirstFailing}
-use Rattle.refusal_rules.specs.Answers.{Answer, gives, refuses, answered, mapped, and_then, numberSays, wordSays, sizeSays, placeSays}
+use Rattle.refusal_rules.specs.Rules.{Rule, first_fault, Every, Hold, Give, FirstFailing}
+use Rattle.refusal_rules.specs.Answers.{Answer, gives, refuses, answered, mapped, and_then, number_says, word_says, size_says, place_says}
 use Rattle.refusal_rules.specs.declared.NumberAnswer.{NumberAnswer}
 use Rattle.refusal_rules.specs.declared.NumberAnswer.TheVariants as NumberAnswer
 use Rattle.refusal_rules.specs.declared.PlaceAnswer.{PlaceAnswer}
@@ -18,7 +18,7 @@ use Rattle.refusal_rules.specs.declared.Verdict.{Verdict}
 use Rattle.refusal_rules.specs.declared.Verdict.TheVariants.{Pass, Fault}
 use Rattle.refusal_rules.specs.declared.WordAnswer.{WordAnswer}
 use Rattle.refusal_rules.specs.declared.WordAnswer.TheVariants as WordAnswer
-use Rattle.refusal_rules.proofs.Tables.{pass-hold, hold-pass, fault-first, first-fault, every-right, same-fault}
+use Rattle.refusal_rules.proofs.Tables.{pass_hold, hold_pass, fault_first, first_fault_lem, every_right, same_fault}
 
 -- ---- answers that are equal
 
@@ -28,8 +28,8 @@ module _ {Value : Type 0} where
   gives-refuses e = let z : ◌≡◌ {A = ℕ} 0 1 = cc in let y : ⊥ = omega arith in absurd y
 
   -- equal values
-  pub gives_same : {v w : Value} → gives v ≡ gives w → v ≡ w
-  gives_same e = cc
+  pub gives-same : {v w : Value} → gives v ≡ gives w → v ≡ w
+  gives-same e = cc
 
   -- equal refusals
   pub refuses-same : {r s : Refusal} → ◌≡◌ {A = Answer Value} (refuses r.number r.place) (refuses s.number s.place) → r ≡ s
@@ -44,114 +44,114 @@ module _ {Value : Type 0} where
   settled says back e x y p = sym (e x) ∙ ap back p ∙ e y
 
 -- what an answer says settles the answer: one whose value is an unsigned number
-pub number-settled : (x y : NumberAnswer) → numberSays x ≡ numberSays y → x ≡ y
-number-settled (NumberAnswer.Value n) (NumberAnswer.Value m) e = ap NumberAnswer.Value (gives_same e)
-number-settled (NumberAnswer.Value n) (NumberAnswer.Refused s) e = gives-refuses e
-number-settled (NumberAnswer.Refused r) (NumberAnswer.Value m) e = gives-refuses (sym e)
-number-settled (NumberAnswer.Refused r) (NumberAnswer.Refused s) e = ap NumberAnswer.Refused (refuses-same e)
+pub number_settled : (x y : NumberAnswer) → number_says x ≡ number_says y → x ≡ y
+number_settled (NumberAnswer.Value n) (NumberAnswer.Value m) e = ap NumberAnswer.Value (gives-same e)
+number_settled (NumberAnswer.Value n) (NumberAnswer.Refused s) e = gives-refuses e
+number_settled (NumberAnswer.Refused r) (NumberAnswer.Value m) e = gives-refuses (sym e)
+number_settled (NumberAnswer.Refused r) (NumberAnswer.Refused s) e = ap NumberAnswer.Refused (refuses-same e)
 
 -- one whose value is a signed word
-pub word-settled : (x y : WordAnswer) → wordSays x ≡ wordSays y → x ≡ y
-word-settled (WordAnswer.Value n) (WordAnswer.Value m) e = ap WordAnswer.Value (gives_same e)
-word-settled (WordAnswer.Value n) (WordAnswer.Refused s) e = gives-refuses e
-word-settled (WordAnswer.Refused r) (WordAnswer.Value m) e = gives-refuses (sym e)
-word-settled (WordAnswer.Refused r) (WordAnswer.Refused s) e = ap WordAnswer.Refused (refuses-same e)
+pub word_settled : (x y : WordAnswer) → word_says x ≡ word_says y → x ≡ y
+word_settled (WordAnswer.Value n) (WordAnswer.Value m) e = ap WordAnswer.Value (gives-same e)
+word_settled (WordAnswer.Value n) (WordAnswer.Refused s) e = gives-refuses e
+word_settled (WordAnswer.Refused r) (WordAnswer.Value m) e = gives-refuses (sym e)
+word_settled (WordAnswer.Refused r) (WordAnswer.Refused s) e = ap WordAnswer.Refused (refuses-same e)
 
 -- one whose value is an address, a length or a count
-pub size-settled : (x y : SizeAnswer) → sizeSays x ≡ sizeSays y → x ≡ y
-size-settled (SizeAnswer.Value n) (SizeAnswer.Value m) e = ap SizeAnswer.Value (gives_same e)
-size-settled (SizeAnswer.Value n) (SizeAnswer.Refused s) e = gives-refuses e
-size-settled (SizeAnswer.Refused r) (SizeAnswer.Value m) e = gives-refuses (sym e)
-size-settled (SizeAnswer.Refused r) (SizeAnswer.Refused s) e = ap SizeAnswer.Refused (refuses-same e)
+pub size_settled : (x y : SizeAnswer) → size_says x ≡ size_says y → x ≡ y
+size_settled (SizeAnswer.Value n) (SizeAnswer.Value m) e = ap SizeAnswer.Value (gives-same e)
+size_settled (SizeAnswer.Value n) (SizeAnswer.Refused s) e = gives-refuses e
+size_settled (SizeAnswer.Refused r) (SizeAnswer.Value m) e = gives-refuses (sym e)
+size_settled (SizeAnswer.Refused r) (SizeAnswer.Refused s) e = ap SizeAnswer.Refused (refuses-same e)
 
 -- one whose value is a place
-pub place-settled : (x y : PlaceAnswer) → placeSays x ≡ placeSays y → x ≡ y
-place-settled (PlaceAnswer.At p) (PlaceAnswer.At q) e = ap PlaceAnswer.At (gives_same e)
-place-settled (PlaceAnswer.At p) (PlaceAnswer.Refused s) e = gives-refuses e
-place-settled (PlaceAnswer.Refused r) (PlaceAnswer.At q) e = gives-refuses (sym e)
-place-settled (PlaceAnswer.Refused r) (PlaceAnswer.Refused s) e = ap PlaceAnswer.Refused (refuses-same e)
+pub place_settled : (x y : PlaceAnswer) → place_says x ≡ place_says y → x ≡ y
+place_settled (PlaceAnswer.At p) (PlaceAnswer.At q) e = ap PlaceAnswer.At (gives-same e)
+place_settled (PlaceAnswer.At p) (PlaceAnswer.Refused s) e = gives-refuses e
+place_settled (PlaceAnswer.Refused r) (PlaceAnswer.At q) e = gives-refuses (sym e)
+place_settled (PlaceAnswer.Refused r) (PlaceAnswer.Refused s) e = ap PlaceAnswer.Refused (refuses-same e)
 
 -- an answer with other values made of its values, no two of which become one, gives what the answer gives
 pub mapped-gives : {Value Other : Type 0} (h : Value → Other) → ((v w : Value) → h v ≡ h w → v ≡ w)
     → (x : Answer Value) (v : Value) → (mapped h x ≡ gives (h v)) ↔ (x ≡ gives v)
-mapped-gives h inject (gives w) v = (λ e. ap gives (inject w v (gives_same e)), λ e. ap (λ u. gives (h u)) (gives_same e))
+mapped-gives h inject (gives w) v = (λ e. ap gives (inject w v (gives-same e)), λ e. ap (λ u. gives (h u)) (gives-same e))
 mapped-gives h inject (refuses n p) v = (λ e. gives-refuses (sym e), λ e. gives-refuses (sym e))
 
 -- equal refusals of answers with values of any type
-pub refuses-alike : {A B : Type 0} {m q n p : ℕ} → ◌≡◌ {A = Answer A} (refuses m q) (refuses n p) → ◌≡◌ {A = Answer B} (refuses m q) (refuses n p)
-refuses-alike {m = m} {q} {n} {p} e =
+pub refuses_alike : {A B : Type 0} {m q n p : ℕ} → ◌≡◌ {A = Answer A} (refuses m q) (refuses n p) → ◌≡◌ {A = Answer B} (refuses m q) (refuses n p)
+refuses_alike {m = m} {q} {n} {p} e =
     let number : m ≡ n = cc in
     let place : q ≡ p = cc in
     λ i. refuses (number i) (place i)
 
 -- what it gives is made of what the answer gives
-pub mapped-made : {Value Other : Type 0} (h : Value → Other) (x : Answer Value) (w : Other)
+pub mapped_made : {Value Other : Type 0} (h : Value → Other) (x : Answer Value) (w : Other)
     → (mapped h x ≡ gives w) ↔ ((v : Value) × (x ≡ gives v) × (w ≡ h v))
-mapped-made h (gives v) w = (λ e. (v, refl, sym (gives_same e)), λ p. ap (λ u. gives (h u)) (gives_same p.1) ∙ ap gives (sym p.2))
-mapped-made h (refuses n q) w = (λ e. gives-refuses (sym e), λ p. gives-refuses (sym p.1))
+mapped_made h (gives v) w = (λ e. (v, refl, sym (gives-same e)), λ p. ap (λ u. gives (h u)) (gives-same p.1) ∙ ap gives (sym p.2))
+mapped_made h (refuses n q) w = (λ e. gives-refuses (sym e), λ p. gives-refuses (sym p.1))
 
 -- it refuses exactly as the answer does
 pub mapped-refuses : {Value Other : Type 0} (h : Value → Other) (x : Answer Value) (n p : ℕ) → (mapped h x ≡ refuses n p) ↔ (x ≡ refuses n p)
 mapped-refuses h (gives v) n p = (λ e. gives-refuses e, λ e. gives-refuses e)
-mapped-refuses h (refuses m q) n p = (λ e. refuses-alike e, λ e. refuses-alike e)
+mapped-refuses h (refuses m q) n p = (λ e. refuses_alike e, λ e. refuses_alike e)
 
 -- ---- an answer that goes on with another's value
 
 module _ {Value Other : Type 0} (h : Value → Answer Other) where
   -- it gives a value exactly where the first gives one, with which the second gives it
-  pub then-gives : (x : Answer Value) (w : Other) → (and_then x h ≡ gives w) ↔ ((v : Value) × (x ≡ gives v) × (h v ≡ gives w))
-  then-gives (gives v) w = (λ e. (v, refl, e), λ p. ap h (gives_same p.1) ∙ p.2)
-  then-gives (refuses n q) w = (λ e. gives-refuses (sym e), λ p. gives-refuses (sym p.1))
+  pub then_gives : (x : Answer Value) (w : Other) → (and_then x h ≡ gives w) ↔ ((v : Value) × (x ≡ gives v) × (h v ≡ gives w))
+  then_gives (gives v) w = (λ e. (v, refl, e), λ p. ap h (gives-same p.1) ∙ p.2)
+  then_gives (refuses n q) w = (λ e. gives-refuses (sym e), λ p. gives-refuses (sym p.1))
 
   -- where the first gives a value, the second decides
-  pub then-given : (x : Answer Value) (v : Value) → x ≡ gives v → and_then x h ≡ h v
-  then-given x v e = ap (λ (y : Answer Value). and_then y h) e
+  pub then_given : (x : Answer Value) (v : Value) → x ≡ gives v → and_then x h ≡ h v
+  then_given x v e = ap (λ (y : Answer Value). and_then y h) e
 
   -- where neither refuses so, the two together do not
   pub then_never : (x : Answer Value) (n p : ℕ) → ¬ (x ≡ refuses n p) → ((v : Value) → ¬ (h v ≡ refuses n p)) → ¬ (and_then x h ≡ refuses n p)
   then_never (gives v) n p first second e = second v e
-  then_never (refuses m q) n p first second e = first (refuses-alike e)
+  then_never (refuses m q) n p first second e = first (refuses_alike e)
 
   -- a refusal of the first stays
-  pub then-refused : (x : Answer Value) (n p : ℕ) → x ≡ refuses n p → and_then x h ≡ refuses n p
-  then-refused x n p e = ap (λ (y : Answer Value). and_then y h) e
+  pub then_refused : (x : Answer Value) (n p : ℕ) → x ≡ refuses n p → and_then x h ≡ refuses n p
+  then_refused x n p e = ap (λ (y : Answer Value). and_then y h) e
 
 -- ---- the answer of a table
 
 module _ {Value : Type 0} (rs : List Rule) (v : Value) where
   -- a call answers a value exactly where every rule holds, and then the one that the definition gives
-  pub value-exactly : (w : Value) → (answered (firstFault rs) v ≡ gives w) ↔ (Hold rs × (w ≡ v))
-  value-exactly w = (λ e. step (firstFault rs) refl e, λ h. rw (hold-pass rs h.0) (ap gives (sym h.1)))
+  pub value_exactly : (w : Value) → (answered (first_fault rs) v ≡ gives w) ↔ (Hold rs × (w ≡ v))
+  value_exactly w = (λ e. step (first_fault rs) refl e, λ h. rw (hold_pass rs h.0) (ap gives (sym h.1)))
     where
-      step : (x : Verdict) → firstFault rs ≡ x → answered x v ≡ gives w → Hold rs × (w ≡ v)
-      step Pass p e = (pass-hold rs p, sym (gives_same e))
+      step : (x : Verdict) → first_fault rs ≡ x → answered x v ≡ gives w → Hold rs × (w ≡ v)
+      step Pass p e = (pass_hold rs p, sym (gives-same e))
       step (Fault r) p e = gives-refuses (sym e)
 
   -- and a refusal exactly where a rule fails, and then that of the first
-  pub refusal-exactly : (f : Refusal) → (answered (firstFault rs) v ≡ refuses f.number f.place) ↔ FirstFailing rs f
-  refusal-exactly f = (λ e. step (firstFault rs) refl e, λ x. rw (first-fault rs f x))
+  pub refusal_exactly : (f : Refusal) → (answered (first_fault rs) v ≡ refuses f.number f.place) ↔ FirstFailing rs f
+  refusal_exactly f = (λ e. step (first_fault rs) refl e, λ x. rw (first_fault_lem rs f x))
     where
-      step : (x : Verdict) → firstFault rs ≡ x → answered x v ≡ refuses f.number f.place → FirstFailing rs f
+      step : (x : Verdict) → first_fault rs ≡ x → answered x v ≡ refuses f.number f.place → FirstFailing rs f
       step Pass p e = gives-refuses e
-      step (Fault r) p e = fault-first rs f (p ∙ ap Fault (refuses-same e))
+      step (Fault r) p e = fault_first rs f (p ∙ ap Fault (refuses-same e))
 
   -- and never with a number that no rule has
-  pub never-refused : (n p : ℕ) → Every (λ r. ¬ (r.number ≡ n)) rs → ¬ (answered (firstFault rs) v ≡ refuses n p)
-  never-refused n p other e =
+  pub never_refused : (n p : ℕ) → Every (λ r. ¬ (r.number ≡ n)) rs → ¬ (answered (first_fault rs) v ≡ refuses n p)
+  never_refused n p other e =
       let f : Refusal = record { number = n; place = p } in
-      let x : FirstFailing rs f = (refusal-exactly f).0 e in
-      (every-right (λ r. ¬ (r.number ≡ n)) x.before (x.failing ∷ x.after) (subst (Every (λ r. ¬ (r.number ≡ n))) x.split other)).0
+      let x : FirstFailing rs f = (refusal_exactly f).0 e in
+      (every_right (λ r. ¬ (r.number ≡ n)) x.before (x.failing ∷ x.after) (subst (Every (λ r. ¬ (r.number ≡ n))) x.split other)).0
       (sym (ap (λ (r : Refusal). r.number) x.gives))
 
 -- ---- 7, there is no such value, is no number above it: 8 is left to stores, 9 to layouts that are stale
 
 -- of numbers
-pub above-seven : {n : ℕ} → 7 < n → ¬ (◌≡◌ {A = ℕ} 7 n)
-above-seven h e = omega (arith, h, e)
+pub above_seven : {n : ℕ} → 7 < n → ¬ (◌≡◌ {A = ℕ} 7 n)
+above_seven h e = omega (arith, h, e)
 
 -- of refusals
-pub seven-only : {Value : Type 0} {n p : ℕ} → 7 < n → ¬ (◌≡◌ {A = Answer Value} (refuses 7 0) (refuses n p))
-seven-only {n = n} h e = let same : ◌≡◌ {A = ℕ} 7 n = cc in above-seven h same
+pub seven_only : {Value : Type 0} {n p : ℕ} → 7 < n → ¬ (◌≡◌ {A = Answer Value} (refuses 7 0) (refuses n p))
+seven_only {n = n} h e = let same : ◌≡◌ {A = ℕ} 7 n = cc in above_seven h same
 
 -- 9 is above 7
 pub nine : ◌<◌ 7 9
@@ -160,19 +160,19 @@ nine = omega arith
 -- ---- answers that say exactly whether a value is the one for what was asked
 
 module _ {Value Asked : Type 0} (Is : Asked → Value → Type 0) (rules : Asked → List Rule) (value : Asked → Value)
-    (exactly : (x : Asked) (v : Value) → (answered (firstFault (rules x)) (value x) ≡ gives v) ↔ Is x v) where
+    (exactly : (x : Asked) (v : Value) → (answered (first_fault (rules x)) (value x) ≡ gives v) ↔ Is x v) where
   -- there is at most one
-  pub exactly-one : (x : Asked) (v w : Value) → Is x v → Is x w → v ≡ w
-  exactly-one x v w p q = gives_same (sym ((exactly x v).1 p) ∙ (exactly x w).1 q)
+  pub exactly_one : (x : Asked) (v w : Value) → Is x v → Is x w → v ≡ w
+  exactly_one x v w p q = gives-same (sym ((exactly x v).1 p) ∙ (exactly x w).1 q)
 
   -- where every rule gives the same refusal, it is given exactly where there is none
-  pub exactly-none : (f : Refusal) → ((x : Asked) → Give f (rules x))
-      → (x : Asked) → (answered (firstFault (rules x)) (value x) ≡ refuses f.number f.place) ↔ ((v : Value) → ¬ Is x v)
-  exactly-none f all x = (λ e v p. gives-refuses (sym ((exactly x v).1 p) ∙ e), λ none. step (firstFault (rules x)) refl none)
+  pub exactly_none : (f : Refusal) → ((x : Asked) → Give f (rules x))
+      → (x : Asked) → (answered (first_fault (rules x)) (value x) ≡ refuses f.number f.place) ↔ ((v : Value) → ¬ Is x v)
+  exactly_none f all x = (λ e v p. gives-refuses (sym ((exactly x v).1 p) ∙ e), λ none. step (first_fault (rules x)) refl none)
     where
-      step : (y : Verdict) → firstFault (rules x) ≡ y → ((v : Value) → ¬ Is x v)
-          → answered (firstFault (rules x)) (value x) ≡ refuses f.number f.place
+      step : (y : Verdict) → first_fault (rules x) ≡ y → ((v : Value) → ¬ Is x v)
+          → answered (first_fault (rules x)) (value x) ≡ refuses f.number f.place
       step Pass e none = absurd (none (value x) ((exactly x (value x)).0 (ap (λ (y : Verdict). answered y (value x)) e)))
       step (Fault r) e none =
           ap (λ (y : Verdict). answered y (value x)) e
-          ∙ ap (λ (s : Refusal). refuses s.number s.place) (same-fault (rules x) f r (all x) (fault-first (rules x) r e))
+          ∙ ap (λ (s : Refusal). refuses s.number s.place) (same_fault (rules x) f r (all x) (fault_first (rules x) r e))

@@ -37,29 +37,29 @@ and_then (gives v) h = h v
 and_then (refuses n p) h = refuses n p
 
 -- what each case of a `NumberAnswer` says: an unsigned number, or the refusal
-abbrev pub numberSays : NumberAnswer → Answer ℕ
-numberSays (NumberAnswer.Value n) = gives n
-numberSays (NumberAnswer.Refused r) = refuses r.number r.place
+abbrev pub number_says : NumberAnswer → Answer ℕ
+number_says (NumberAnswer.Value n) = gives n
+number_says (NumberAnswer.Refused r) = refuses r.number r.place
 
 -- what each case of a `WordAnswer` says: a signed word, or the refusal
-abbrev pub wordSays : WordAnswer → Answer ℤ
-wordSays (WordAnswer.Value v) = gives v
-wordSays (WordAnswer.Refused r) = refuses r.number r.place
+abbrev pub word_says : WordAnswer → Answer ℤ
+word_says (WordAnswer.Value v) = gives v
+word_says (WordAnswer.Refused r) = refuses r.number r.place
 
 -- what each case of a `SizeAnswer` says: an address, a length or a count, or the refusal
-abbrev pub sizeSays : SizeAnswer → Answer ℕ
-sizeSays (SizeAnswer.Value n) = gives n
-sizeSays (SizeAnswer.Refused r) = refuses r.number r.place
+abbrev pub size_says : SizeAnswer → Answer ℕ
+size_says (SizeAnswer.Value n) = gives n
+size_says (SizeAnswer.Refused r) = refuses r.number r.place
 
 -- what each case of a `PlaceAnswer` says: a place, or the refusal
-abbrev pub placeSays : PlaceAnswer → Answer Place
-placeSays (PlaceAnswer.At p) = gives p
-placeSays (PlaceAnswer.Refused r) = refuses r.number r.place
+abbrev pub place_says : PlaceAnswer → Answer Place
+place_says (PlaceAnswer.At p) = gives p
+place_says (PlaceAnswer.Refused r) = refuses r.number r.place
 
 -- the place of so many bytes at an address
 abbrev pub place : ℕ → ℕ → Place
 place address width = record { address = address; width = width }
 
 -- the place of word k, counted from 0: its four bytes
-abbrev pub wordPlace : ℕ → Place
-wordPlace k = place (4 * k) 4
+abbrev pub word_place : ℕ → Place
+word_place k = place (4 * k) 4

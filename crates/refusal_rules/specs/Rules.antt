@@ -18,12 +18,12 @@ abbrev pub rule : Bool → ℕ → ℕ → Rule
 rule holds number place = record { holds = holds; number = number; place = place }
 
 -- the refusal that a rule gives
-abbrev pub refusalOf : Rule → Refusal
-refusalOf r = record { number = r.number; place = r.place }
+abbrev pub refusal_of : Rule → Refusal
+refusal_of r = record { number = r.number; place = r.place }
 
 -- what one rule says: a pass where its test holds, else its refusal
 unfoldable pub judge : Rule → Verdict
-judge r = pick r.holds Pass (Fault (refusalOf r))
+judge r = pick r.holds Pass (Fault (refusal_of r))
 
 -- the first fault of two verdicts, or a pass
 unfoldable pub first : Verdict → Verdict → Verdict
@@ -31,9 +31,9 @@ first Pass v = v
 first (Fault r) v = Fault r
 
 -- what a table says: the first of its rules that fails
-unfoldable pub firstFault : List Rule → Verdict
-firstFault [] = Pass
-firstFault (r ∷ rs) = first (judge r) (firstFault rs)
+unfoldable pub first_fault : List Rule → Verdict
+first_fault [] = Pass
+first_fault (r ∷ rs) = first (judge r) (first_fault rs)
 
 -- the numbers and places of a table, in its order
 unfoldable pub tabled : List Rule → List (ℕ × ℕ)
@@ -56,7 +56,7 @@ Hold rs = Every (λ r. r.holds ≡ true) rs
 
 -- every rule of a table gives the same refusal
 abbrev pub Give : Refusal → List Rule → Type 0
-Give f rs = Every (λ r. refusalOf r ≡ f) rs
+Give f rs = Every (λ r. refusal_of r ≡ f) rs
 
 -- a table's first rule that fails, with the rules before it, which hold
 pub record FirstFailing (table : List Rule) (refusal : Refusal) : Type 0 where
@@ -66,4 +66,4 @@ pub record FirstFailing (table : List Rule) (refusal : Refusal) : Type 0 where
   pub split : table ≡ before ++ failing ∷ after
   pub hold : Hold before
   pub fails : failing.holds ≡ false
-  pub gives : refusal ≡ refusalOf failing
+  pub gives : refusal ≡ refusal_of failing

@@ -6,33 +6,33 @@ use mathlib.Core.List.{List, []}
 use Prim.Native.Nat.{ℕ, ◌+◌, ◌<◌}
 use native.Mathlib.Omega.{arith}
 use lib.ListN.{length, get_or}
-use Rattle.lists.proofs.Parts.{length_part, get_d_part}
+use Rattle.lists.proofs.Parts.{length-part, get_or-part}
 use Rattle.refusal_rules.specs.Answers.{gives, refuses}
-use Rattle.refusal_rules.proofs.Answers.{gives-refuses, gives_same, refuses-same}
-use Rattle.span_rules.specs.Spans.{spanSays, handed, handedAt, Inside}
+use Rattle.refusal_rules.proofs.Answers.{gives-refuses, gives-same, refuses-same}
+use Rattle.span_rules.specs.Spans.{span_says, handed, handed_at, Inside}
 use Rattle.span_rules.specs.declared.Span.{Span}
 use Rattle.span_rules.specs.declared.SpanAnswer.{SpanAnswer}
 use Rattle.span_rules.specs.declared.SpanAnswer.TheVariants.{At, Refused}
 
 -- as many bytes are handed back as the span says
 pub handed-length : (f : List ℕ) (s : Span) → Inside f (gives s) → length (handed f (gives s)) ≡ s.length
-handed-length f s inside = length_part s.start s.length f inside
+handed-length f s inside = length-part s.start s.length f inside
 
 -- byte i of what is handed back is byte start + i of the file
-pub handed-byte : (f : List ℕ) (s : Span) (i : ℕ) → i < s.length → get_or (handed f (gives s)) i 0 ≡ get_or f (s.start + i) 0
-handed-byte f s i h = get_d_part s.start s.length f i 0 h
+pub handed_byte : (f : List ℕ) (s : Span) (i : ℕ) → i < s.length → get_or (handed f (gives s)) i 0 ≡ get_or f (s.start + i) 0
+handed_byte f s i h = get_or-part s.start s.length f i 0 h
 
 -- they lie where these bytes of the file lie: byte i is so many bytes behind the address of the lent file
-pub handed-there : (at : ℕ × ℕ) (s : Span) (i : ℕ) → ((handedAt at (gives s)).0 ≡ at.0) × ((handedAt at (gives s)).1 + i ≡ at.1 + (s.start + i))
-handed-there at s i = (refl, omega arith)
+pub handed_there : (at : ℕ × ℕ) (s : Span) (i : ℕ) → ((handed_at at (gives s)).0 ≡ at.0) × ((handed_at at (gives s)).1 + i ≡ at.1 + (s.start + i))
+handed_there at s i = (refl, omega arith)
 
 -- nothing is handed back where the answer is a refusal
-pub handed-refused : (f : List ℕ) (n p : ℕ) → handed f (refuses n p) ≡ []
-handed-refused f n p = refl
+pub handed_refused : (f : List ℕ) (n p : ℕ) → handed f (refuses n p) ≡ []
+handed_refused f n p = refl
 
 -- what an answer says settles the answer
-pub span-settled : (x y : SpanAnswer) → spanSays x ≡ spanSays y → x ≡ y
-span-settled (At s) (At t) e = ap At (gives_same e)
-span-settled (At s) (Refused r) e = gives-refuses e
-span-settled (Refused r) (At t) e = gives-refuses (sym e)
-span-settled (Refused r) (Refused s) e = ap Refused (refuses-same e)
+pub span_settled : (x y : SpanAnswer) → span_says x ≡ span_says y → x ≡ y
+span_settled (At s) (At t) e = ap At (gives-same e)
+span_settled (At s) (Refused r) e = gives-refuses e
+span_settled (Refused r) (At t) e = gives-refuses (sym e)
+span_settled (Refused r) (Refused s) e = ap Refused (refuses-same e)

@@ -10,9 +10,9 @@ use Rattle.span_rules.specs.declared.SpanAnswer.{SpanAnswer}
 use Rattle.span_rules.specs.declared.SpanAnswer.TheVariants.{At, Refused}
 
 -- what each case of the answer of a call says that gives start and length of a part
-abbrev pub spanSays : SpanAnswer → Answer Span
-spanSays (At s) = gives s
-spanSays (Refused r) = refuses r.number r.place
+abbrev pub span_says : SpanAnswer → Answer Span
+span_says (At s) = gives s
+span_says (Refused r) = refuses r.number r.place
 
 -- the span of so many bytes from a start on
 abbrev pub span : ℕ → ℕ → Span
@@ -25,17 +25,17 @@ handed f (refuses n p) = []
 
 -- where the part that is handed back lies: at the byte of the lent file at which the span starts, and at its first byte where the companion call refuses. An address is
 -- a block of memory and a byte in it.
-abbrev pub handedAt : ℕ × ℕ → Answer Span → ℕ × ℕ
-handedAt at (gives s) = (at.0, at.1 + s.start)
-handedAt at (refuses n p) = at
+abbrev pub handed_at : ℕ × ℕ → Answer Span → ℕ × ℕ
+handed_at at (gives s) = (at.0, at.1 + s.start)
+handed_at at (refuses n p) = at
 
 -- what a reference to bytes settles: where they lie, and what they are
-abbrev pub lentBytes : Bor (List ℕ) → (ℕ × ℕ) × List ℕ
-lentBytes r = (r.ref_ptr, r.now)
+abbrev pub lent_bytes : Bor (List ℕ) → (ℕ × ℕ) × List ℕ
+lent_bytes r = (r.ref_ptr, r.now)
 
 -- "handed back as that part of the lent file, empty when refused": where the part lies, and its bytes
-abbrev pub thatPart : Bor (List ℕ) → Answer Span → (ℕ × ℕ) × List ℕ
-thatPart file a = (handedAt file.ref_ptr a, handed file.now a)
+abbrev pub that_part : Bor (List ℕ) → Answer Span → (ℕ × ℕ) × List ℕ
+that_part file a = (handed_at file.ref_ptr a, handed file.now a)
 
 -- the span that an answer gives is inside the file; nothing is said of a refusal
 abbrev pub Inside : List ℕ → Answer Span → Type 0

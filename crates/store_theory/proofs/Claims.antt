@@ -14,16 +14,16 @@ use lib.ListN.{length, get_or}
 use lib.Seq.{ext_get_or}
 use Rattle.lists.specs.Choices.{pick}
 use Rattle.lists.specs.Lists.{part, keep}
-use Rattle.lists.proofs.Parts.{length_part, get_d_part}
+use Rattle.lists.proofs.Parts.{length-part, get_or-part}
 use Rattle.lists.proofs.Stores.{sets-inside}
-use Rattle.store_theory.specs.Plans.{Plan, write, refuse, answer, after, outcome, SucceedsAt, succeedsAt, Covers, Holds}
+use Rattle.store_theory.specs.Plans.{Plan, write, refuse, answer, after, outcome, SucceedsAt, succeeds_at, Covers, Holds}
 use Rattle.store_theory.specs.Series.{leaves, replies}
-use Rattle.store_theory.specs.Stores.{OrderOf, All, System, Laws, alone, stores, fileAfter, answers, storesAt, Distinct}
+use Rattle.store_theory.specs.Stores.{OrderOf, All, System, Laws, alone, stores, file_after, answers, stores_at, Distinct}
 use Rattle.store_theory.specs.Claims.{Demand3, Demand3Runs, LastStands, Request13}
-use Rattle.store_theory.proofs.Orders.{order-mem, order-keep, order-single, only-member}
-use Rattle.store_theory.proofs.Plans.{PlanInside, length-after, address, succeeds-exactly}
+use Rattle.store_theory.proofs.Orders.{order_mem, order-keep, order_single, only_member}
+use Rattle.store_theory.proofs.Plans.{PlanInside, length-after, address, succeeds_exactly}
 use Rattle.store_theory.proofs.Series.{run_is, leaves-append}
-use Rattle.store_theory.proofs.Runs.{carried, length-carried, carried_other, here, carried_here, mem-here, here-mem, none_here, find}
+use Rattle.store_theory.proofs.Runs.{carried, length_carried, carried_other, here, carried_here, mem_here, here_mem, none_here, find}
 
 module _ {Store Answer Opened Value : Type 0} (S : System Store Answer Opened Value) (L : Laws S) where
   -- the laws, of plans that may be refusals
@@ -41,9 +41,9 @@ module _ {Store Answer Opened Value : Type 0} (S : System Store Answer Opened Va
       step (write r a b) e = L.opens (record { fit = ok; told = r; planned = e })
       step (refuse r) e = refl
 
-  meet-of : (f : List ℕ) (s t : Store) (i a : ℕ) → S.Fit s → S.Fit t → Covers i (S.plan f s) → SucceedsAt a (S.plan f s)
+  meet_of : (f : List ℕ) (s t : Store) (i a : ℕ) → S.Fit s → S.Fit t → Covers i (S.plan f s) → SucceedsAt a (S.plan f s)
       → Covers i (S.plan f t) → SucceedsAt a (S.plan f t)
-  meet-of f s t i a ok ok' = step (S.plan f s) (S.plan f t) refl refl
+  meet_of f s t i a ok ok' = step (S.plan f s) (S.plan f t) refl refl
     where
       step : (p q : Plan Answer) → S.plan f s ≡ p → S.plan f t ≡ q → Covers i p → SucceedsAt a p → Covers i q → SucceedsAt a q
       step (write r b x) (write u c y) e e' k w k' =
@@ -54,15 +54,15 @@ module _ {Store Answer Opened Value : Type 0} (S : System Store Answer Opened Va
 
   -- stores into a file g that opens as f does: every plan is the plan on f
   record Planned (f g : List ℕ) (l : List Store) : Type 0 where
-    bytes : fileAfter S g l ≡ carried (S.plan f) g l
+    bytes : file_after S g l ≡ carried (S.plan f) g l
     told : answers S g l ≡ map (alone S f) l
-    opening : S.opening (fileAfter S g l) ≡ S.opening f
+    opening : S.opening (file_after S g l) ≡ S.opening f
 
   planned : (f g : List ℕ) (l : List Store) → All S.Fit l → S.opening g ≡ S.opening f → length g ≡ length f → Planned f g l
   unfolding leaves replies outcome
   planned f g [] ok v n = record { bytes = refl; told = refl; opening = v }
   planned f g (s ∷ l) ok v n =
-      let e : S.plan g s ≡ S.plan f s = L.by-opening g f s (ok s (Memᴰ.head refl)) v n in
+      let e : S.plan g s ≡ S.plan f s = L.by_opening g f s (ok s (Memᴰ.head refl)) v n in
       let r = planned f (after g (S.plan g s)) l (λ t m. ok t (Memᴰ.tail m)) (opens_of g s (ok s (Memᴰ.head refl)) ∙ v) (length-after g (S.plan g s) ∙ n) in
       record {
         bytes = r.bytes ∙ ap (λ p. carried (S.plan f) (after g p) l) e;
@@ -76,29 +76,29 @@ module _ {Store Answer Opened Value : Type 0} (S : System Store Answer Opened Va
   answers-alone f g l ok v n = (planned f g l ok v n).told
 
   -- opening answers as before
-  pub opening-after : (f : List ℕ) (l : List Store) → All S.Fit l → S.opening (fileAfter S f l) ≡ S.opening f
+  pub opening-after : (f : List ℕ) (l : List Store) → All S.Fit l → S.opening (file_after S f l) ≡ S.opening f
   opening-after f l ok = (planned f f l ok refl refl).opening
 
   -- the file is as long as before
-  pub length-after-all : (f : List ℕ) (l : List Store) → All S.Fit l → length (fileAfter S f l) ≡ length f
-  length-after-all f l ok = ap length (planned f f l ok refl refl).bytes ∙ length-carried (S.plan f) f l
+  pub length-after_all : (f : List ℕ) (l : List Store) → All S.Fit l → length (file_after S f l) ≡ length f
+  length-after_all f l ok = ap length (planned f f l ok refl refl).bytes ∙ length_carried (S.plan f) f l
 
   -- a store that comes behind others does on the file that they leave what it would do alone on the file as it came: where one of the two succeeds, so does the other,
   -- and at the same address
-  pub plan_after : (f : List ℕ) (before : List Store) (s : Store) → All S.Fit before → S.Fit s → S.plan (fileAfter S f before) s ≡ S.plan f s
-  plan_after f before s ok fit = L.by-opening (fileAfter S f before) f s fit (opening-after f before ok) (length-after-all f before ok)
+  pub plan-after : (f : List ℕ) (before : List Store) (s : Store) → All S.Fit before → S.Fit s → S.plan (file_after S f before) s ≡ S.plan f s
+  plan-after f before s ok fit = L.by_opening (file_after S f before) f s fit (opening-after f before ok) (length-after_all f before ok)
 
   -- stores at one address in the same order leave the same bytes
   same_bytes : (f : List ℕ) (l m : List Store) → All S.Fit l → All S.Fit m → OrderOf l m
-      → ((a : ℕ) → storesAt S f a l ≡ storesAt S f a m) → carried (S.plan f) f l ≡ carried (S.plan f) f m
-  unfolding storesAt
+      → ((a : ℕ) → stores_at S f a l ≡ stores_at S f a m) → carried (S.plan f) f l ≡ carried (S.plan f) f m
+  unfolding stores_at
   same_bytes f l m ok ok' o e =
-      ext_get_or 0 _ _ (length-carried (S.plan f) f l ∙ sym (length-carried (S.plan f) f m)) (λ i h. step i (find (S.plan f) i l))
+      ext_get_or 0 _ _ (length_carried (S.plan f) f l ∙ sym (length_carried (S.plan f) f m)) (λ i h. step i (find (S.plan f) i l))
     where
       at_address : (i a : ℕ) (s : Store) → S.Fit s → Covers i (S.plan f s) → SucceedsAt a (S.plan f s) → (k : List Store)
           → All S.Fit k → get_or (carried (S.plan f) f k) i 0 ≡ get_or (carried (S.plan f) f (here (S.plan f) a k)) i 0
       at_address i a s oks c w k okk =
-          carried_here (S.plan f) (length f) i a f f k (λ t tk v. meet-of f s t i a oks (okk t tk) c w v) (λ t tk. inside_of f t (okk t tk)) refl refl refl
+          carried_here (S.plan f) (length f) i a f f k (λ t tk v. meet_of f s t i a oks (okk t tk) c w v) (λ t tk. inside_of f t (okk t tk)) refl refl refl
 
       step : (i : ℕ) → ((s : Store) × Memᴰ s l × Covers i (S.plan f s)) ⊎ All (λ s. ¬ Covers i (S.plan f s)) l
           → get_or (carried (S.plan f) f l) i 0 ≡ get_or (carried (S.plan f) f m) i 0
@@ -108,102 +108,102 @@ module _ {Store Answer Opened Value : Type 0} (S : System Store Answer Opened Va
           ∙ ap (λ (x : List Store). get_or (carried (S.plan f) f x) i 0) (e w.0)
           ∙ sym (at_address i w.0 s (ok s sl) c w.1 m ok')
       step i (inr h) =
-          carried_other (S.plan f) i f l h ∙ sym (carried_other (S.plan f) i f m (λ t tm. h t (order-mem (Permᴰ.symm o) tm)))
+          carried_other (S.plan f) i f l h ∙ sym (carried_other (S.plan f) i f m (λ t tm. h t (order_mem (Permᴰ.symm o) tm)))
 
   -- the last store at an address is read back
-  read-last : (f : List ℕ) (l : List Store) → All S.Fit l → (a : ℕ) (before : List Store) (s : Store)
-      → storesAt S f a l ≡ before ++ s ∷ [] → S.read (fileAfter S f l) s ≡ S.number s
-  unfolding storesAt leaves outcome
-  read-last f l ok a before s e = step (S.plan f s) refl in-l.1
+  read_last : (f : List ℕ) (l : List Store) → All S.Fit l → (a : ℕ) (before : List Store) (s : Store)
+      → stores_at S f a l ≡ before ++ s ∷ [] → S.read (file_after S f l) s ≡ S.number s
+  unfolding stores_at leaves outcome
+  read_last f l ok a before s e = step (S.plan f s) refl in-l.1
     where
       in-l : Memᴰ s l × SucceedsAt a (S.plan f s)
-      in-l = here-mem (S.plan f) a s l (subst (λ (x : List Store). Memᴰ s x) (sym e) (Memᴰ.append_right before (Memᴰ.head refl)))
+      in-l = here_mem (S.plan f) a s l (subst (λ (x : List Store). Memᴰ s x) (sym e) (Memᴰ.append_right before (Memᴰ.head refl)))
 
       p : Planned f f l
       p = planned f f l ok refl refl
 
-      n : length (fileAfter S f l) ≡ length f
-      n = length-after-all f l ok
+      n : length (file_after S f l) ≡ length f
+      n = length-after_all f l ok
 
       okₛ : S.Fit s
       okₛ = ok s in-l.0
 
-      step : (q : Plan Answer) → S.plan f s ≡ q → SucceedsAt a q → S.read (fileAfter S f l) s ≡ S.number s
+      step : (q : Plan Answer) → S.plan f s ≡ q → SucceedsAt a q → S.read (file_after S f l) s ≡ S.number s
       step (refuse u) q w = absurd w
       step (write u c b) q w =
-          L.reads (record { fit = okₛ; told = u; planned = L.by-opening (fileAfter S f l) f s okₛ p.opening n ∙ q }) holds
+          L.reads (record { fit = okₛ; told = u; planned = L.by_opening (file_after S f l) f s okₛ p.opening n ∙ q }) holds
         where
           fits : c + length b ≤ length f
           fits = L.inside (record { fit = okₛ; told = u; planned = q })
 
-          byte : (k : ℕ) → k < length b → get_or (fileAfter S f l) (c + k) 0 ≡ get_or b k 0
+          byte : (k : ℕ) → k < length b → get_or (file_after S f l) (c + k) 0 ≡ get_or b k 0
           byte k lt =
               ap (λ (x : List ℕ). get_or x (c + k) 0) p.bytes
-              ∙ carried_here (S.plan f) (length f) (c + k) a f f l (λ t tl kt. meet-of f s t (c + k) a okₛ (ok t tl) (rw q (omega arith, omega arith)) in-l.1 kt) (λ t tl. inside_of f t (ok t tl)) refl refl refl
+              ∙ carried_here (S.plan f) (length f) (c + k) a f f l (λ t tl kt. meet_of f s t (c + k) a okₛ (ok t tl) (rw q (omega arith, omega arith)) in-l.1 kt) (λ t tl. inside_of f t (ok t tl)) refl refl refl
               ∙ ap (λ (x : List Store). get_or (carried (S.plan f) f x) (c + k) 0) e
               ∙ ap (λ (x : List ℕ). get_or x (c + k) 0) (leaves-append (λ (g : List ℕ) (t : Store). outcome g (S.plan f t)) f before (s ∷ []))
               ∙ ap (λ (r : Plan Answer). get_or (after (carried (S.plan f) f before) r) (c + k) 0) q
-              ∙ sets-inside b (carried (S.plan f) f before) c k 0 (rw length-carried fits) lt
+              ∙ sets-inside b (carried (S.plan f) f before) c k 0 (rw length_carried fits) lt
 
-          long : length (part c (length b) (fileAfter S f l)) ≡ length b
-          long = length_part c (length b) (fileAfter S f l) (rw n fits)
+          long : length (part c (length b) (file_after S f l)) ≡ length b
+          long = length-part c (length b) (file_after S f l) (rw n fits)
 
-          holds : Holds (fileAfter S f l) c b
+          holds : Holds (file_after S f l) c b
           holds =
               ext_get_or 0 _ b long
-              (λ k lt. get_d_part c (length b) (fileAfter S f l) k 0 (omega (arith, long)) ∙ byte k (omega (arith, long)))
+              (λ k lt. get_or-part c (length b) (file_after S f l) k 0 (omega (arith, long)) ∙ byte k (omega (arith, long)))
 
   -- request 13
-  pub last-stands : Request13 S
-  last-stands f l m ok o e =
-      let ok' : All S.Fit m = λ t tm. ok t (order-mem (Permᴰ.symm o) tm) in
+  pub last_stands : Request13 S
+  last_stands f l m ok o e =
+      let ok' : All S.Fit m = λ t tm. ok t (order_mem (Permᴰ.symm o) tm) in
       let p = planned f f l ok refl refl in
       let p' = planned f f m ok' refl refl in
       record {
         same = p.bytes ∙ same_bytes f l m ok ok' o e ∙ sym p'.bytes;
-        stored = read-last f l ok;
+        stored = read_last f l ok;
         answered = p.told;
         answered' = p'.told;
         others = λ i h. ap (λ (x : List ℕ). get_or x i 0) p.bytes ∙ carried_other (S.plan f) i f l h;
-        size = length-after-all f l ok;
+        size = length-after_all f l ok;
         opening = p.opening;
       }
 
   -- no two stores succeed at one address: at most one does at each
-  one_each : (f : List ℕ) (l : List Store) → Distinct S f l → (a : ℕ) → length (storesAt S f a l) ≤ 1
-  unfolding storesAt keep
+  one_each : (f : List ℕ) (l : List Store) → Distinct S f l → (a : ℕ) → length (stores_at S f a l) ≤ 1
+  unfolding stores_at keep
   one_each f [] d a = omega arith
-  one_each f (s ∷ l) (apart, d) a = step (succeedsAt a (S.plan f s)) refl (one_each f l d a)
+  one_each f (s ∷ l) (apart, d) a = step (succeeds_at a (S.plan f s)) refl (one_each f l d a)
     where
-      step : (u : Bool) → succeedsAt a (S.plan f s) ≡ u → length (here (S.plan f) a l) ≤ 1
+      step : (u : Bool) → succeeds_at a (S.plan f s) ≡ u → length (here (S.plan f) a l) ≤ 1
           → length (pick u (s ∷ here (S.plan f) a l) (here (S.plan f) a l)) ≤ 1
       step true u h =
-          let w = (succeeds-exactly a (S.plan f s)).0 u in
+          let w = (succeeds_exactly a (S.plan f s)).0 u in
           let e : here (S.plan f) a l ≡ [] = none_here (S.plan f) a l (λ t m v. apart t m a w v) in
           rw e (omega arith)
       step false u h = h
 
   -- demand 3
   pub order-free : Demand3 S
-  unfolding storesAt
+  unfolding stores_at
   order-free f l ok apart =
       let one : (a : ℕ) → length (here (S.plan f) a l) ≤ 1 = one_each f l apart in
-      let w = last-stands f l l ok (Permᴰ.refl l) (λ a. refl) in
+      let w = last_stands f l l ok (Permᴰ.refl l) (λ a. refl) in
       let to : (o : List Store) → OrderOf l o → LastStands S f l o =
-      λ o p. last-stands f l o ok p (λ a. order-single (order-keep (λ s. succeedsAt a (S.plan f s)) p) (one a)) in
+      λ o p. last_stands f l o ok p (λ a. order_single (order-keep (λ s. succeeds_at a (S.plan f s)) p) (one a)) in
       record {
-        bytes = fileAfter S f l;
+        bytes = file_after S f l;
         same = λ o p. sym (to o p).same;
         answered = λ o p. (to o p).answered';
-        stored = λ s sl a v. w.stored a [] s (only-member (mem-here (S.plan f) a sl v) (one a));
+        stored = λ s sl a v. w.stored a [] s (only_member (mem_here (S.plan f) a sl v) (one a));
         others = w.others;
         size = w.size;
         opening = w.opening;
       }
 
   -- demand 3 of functions
-  pub runs-free : Demand3Runs S
-  runs-free f l ok apart =
+  pub runs_free : Demand3Runs S
+  runs_free f l ok apart =
       let d = order-free f l ok apart in
       record {
         free = d;

@@ -12,19 +12,19 @@ use native.Mathlib.Omega.{arith}
 use lib.ListN.{length}
 use Rattle.lists.specs.Choices.{pick}
 use Rattle.lists.specs.Lists.{keep}
-use Rattle.lists.proofs.Kept.{kept-is}
+use Rattle.lists.proofs.Kept.{kept_is}
 use Rattle.store_theory.specs.Stores.{OrderOf}
 
 module _ {X : Type 0} where
   -- an order has the list's members
-  pub order-mem : {x : X} {l o : List X} → OrderOf l o → Memᴰ x l → Memᴰ x o
-  order-mem Permᴰ.nil m = m
-  order-mem {x} (Permᴰ.cons {a = a} {b = b} {l₁ = l} {l₂ = o} e d) m = step (λ k. order-mem d k) (Memᴰ.cases_cons m)
+  pub order_mem : {x : X} {l o : List X} → OrderOf l o → Memᴰ x l → Memᴰ x o
+  order_mem Permᴰ.nil m = m
+  order_mem {x} (Permᴰ.cons {a = a} {b = b} {l₁ = l} {l₂ = o} e d) m = step (λ k. order_mem d k) (Memᴰ.cases_cons m)
     where
       step : (Memᴰ x l → Memᴰ x o) → (x ≡ a) ⊎ Memᴰ x l → Memᴰ x (b ∷ o)
       step rec (inl q) = Memᴰ.head (q ∙ e)
       step rec (inr k) = Memᴰ.tail (rec k)
-  order-mem {x} (Permᴰ.swap {a = a} {b = b} {a' = c} {b' = d} {l = l} e₁ e₂) m = step (Memᴰ.cases_cons m)
+  order_mem {x} (Permᴰ.swap {a = a} {b = b} {a' = c} {b' = d} {l = l} e₁ e₂) m = step (Memᴰ.cases_cons m)
     where
       under : (x ≡ b) ⊎ Memᴰ x l → Memᴰ x (c ∷ d ∷ l)
       under (inl q) = Memᴰ.head (q ∙ e₂)
@@ -33,7 +33,7 @@ module _ {X : Type 0} where
       step : (x ≡ a) ⊎ Memᴰ x (b ∷ l) → Memᴰ x (c ∷ d ∷ l)
       step (inl q) = Memᴰ.tail (Memᴰ.head (q ∙ e₁))
       step (inr k) = under (Memᴰ.cases_cons k)
-  order-mem (Permᴰ.trans d₁ d₂) m = order-mem d₂ (order-mem d₁ m)
+  order_mem (Permᴰ.trans d₁ d₂) m = order_mem d₂ (order_mem d₁ m)
 
   -- it is as long
   pub order-length : {l o : List X} → OrderOf l o → length l ≡ length o
@@ -62,20 +62,20 @@ module _ {X : Type 0} where
   order-keep t (Permᴰ.trans d₁ d₂) = Permᴰ.trans (order-keep t d₁) (order-keep t d₂)
 
   -- a list of at most one member has one order
-  pub order-single : {l o : List X} → OrderOf l o → length l ≤ 1 → l ≡ o
-  order-single Permᴰ.nil h = refl
-  order-single (Permᴰ.cons e d) h = ap₂ ◌∷◌ e (order-single d (omega arith))
-  order-single (Permᴰ.swap e₁ e₂) h = let z : ⊥ = omega arith in absurd z
-  order-single (Permᴰ.trans d₁ d₂) h =
-      let e = order-single d₁ h in
-      e ∙ order-single d₂ (rw e at h)
+  pub order_single : {l o : List X} → OrderOf l o → length l ≤ 1 → l ≡ o
+  order_single Permᴰ.nil h = refl
+  order_single (Permᴰ.cons e d) h = ap₂ ◌∷◌ e (order_single d (omega arith))
+  order_single (Permᴰ.swap e₁ e₂) h = let z : ⊥ = omega arith in absurd z
+  order_single (Permᴰ.trans d₁ d₂) h =
+      let e = order_single d₁ h in
+      e ∙ order_single d₂ (rw e at h)
 
   -- a member of such a list is all of it
-  pub only-member : {x : X} {l : List X} → Memᴰ x l → length l ≤ 1 → l ≡ x ∷ []
-  only-member (Memᴰ.head {xs = []} e) h = ap (λ y. y ∷ []) (sym e)
-  only-member (Memᴰ.head {xs = y ∷ l} e) h = let z : ⊥ = omega arith in absurd z
-  only-member (Memᴰ.tail {xs = []} m) h = absurd (Memᴰ.not-nil m)
-  only-member (Memᴰ.tail {xs = y ∷ l} m) h = let z : ⊥ = omega arith in absurd z
+  pub only_member : {x : X} {l : List X} → Memᴰ x l → length l ≤ 1 → l ≡ x ∷ []
+  only_member (Memᴰ.head {xs = []} e) h = ap (λ y. y ∷ []) (sym e)
+  only_member (Memᴰ.head {xs = y ∷ l} e) h = let z : ⊥ = omega arith in absurd z
+  only_member (Memᴰ.tail {xs = []} m) h = absurd (Memᴰ.not-nil m)
+  only_member (Memᴰ.tail {xs = y ∷ l} m) h = let z : ⊥ = omega arith in absurd z
 
 -- ---- the same members, each as often
 
@@ -85,16 +85,16 @@ module _ {X : Type 0} where
   AsOften l o = (t : X → Bool) → length (keep t l) ≡ length (keep t o)
 
   -- an order has each member as often
-  pub order-count : {l o : List X} → OrderOf l o → AsOften l o
-  order-count d t = order-length (order-keep t d)
+  pub order_count : {l o : List X} → OrderOf l o → AsOften l o
+  order_count d t = order-length (order-keep t d)
 
-  keep-nil : (t : X → Bool) → length (keep t []) ≡ 0
+  keep_nil : (t : X → Bool) → length (keep t []) ≡ 0
   unfolding keep
-  keep-nil t = refl
+  keep_nil t = refl
 
-  keep-cons : (t : X → Bool) (x : X) (l : List X) → length (keep t (x ∷ l)) ≡ pick (t x) 1 0 + length (keep t l)
+  keep_cons : (t : X → Bool) (x : X) (l : List X) → length (keep t (x ∷ l)) ≡ pick (t x) 1 0 + length (keep t l)
   unfolding keep
-  keep-cons t x l = step (t x)
+  keep_cons t x l = step (t x)
     where
       step : (u : Bool) → length (pick u (x ∷ keep t l) (keep t l)) ≡ pick u 1 0 + length (keep t l)
       step true = omega arith
@@ -113,8 +113,8 @@ module _ {X : Type 0} where
       record { before = y ∷ s.before; after = s.after; split = ap (λ (k : List X). y ∷ k) s.split }
 
   -- of a list whose members some test keeps, one that it keeps
-  some-kept : (t : X → Bool) (o : List X) → 1 ≤ length (keep t o) → (y : X) × Memᴰ y o × (t y ≡ true)
-  some-kept t o h = step (keep t o) (λ y m. kept-is t y o m) h
+  some_kept : (t : X → Bool) (o : List X) → 1 ≤ length (keep t o) → (y : X) × Memᴰ y o × (t y ≡ true)
+  some_kept t o h = step (keep t o) (λ y m. kept_is t y o m) h
     where
       step : (k : List X) → ((y : X) → Memᴰ y k → Memᴰ y o × (t y ≡ true)) → 1 ≤ length k → (y : X) × Memᴰ y o × (t y ≡ true)
       step [] g lt = let z : ⊥ = omega arith in absurd z
@@ -122,19 +122,19 @@ module _ {X : Type 0} where
 
 module _ {X : Type 0} (discrete : Discrete X) where
   -- lists that have the same members, each as often, are orders of each other
-  pub count-order : (l o : List X) → AsOften l o → OrderOf l o
-  count-order [] [] h = Permᴰ.nil
-  count-order [] (y ∷ o) h = let z : ⊥ = omega (arith, h (λ x. true), keep-nil {X = X} (λ x. true), keep-cons (λ x. true) y o) in absurd z
-  count-order (x ∷ l) o h = rw s.split (Permᴰ.trans (Permᴰ.cons refl (count-order l (s.before ++ s.after) fewer)) (Permᴰ.symm moved))
+  pub count_order : (l o : List X) → AsOften l o → OrderOf l o
+  count_order [] [] h = Permᴰ.nil
+  count_order [] (y ∷ o) h = let z : ⊥ = omega (arith, h (λ x. true), keep_nil {X = X} (λ x. true), keep_cons (λ x. true) y o) in absurd z
+  count_order (x ∷ l) o h = rw s.split (Permᴰ.trans (Permᴰ.cons refl (count_order l (s.before ++ s.after) fewer)) (Permᴰ.symm moved))
     where
       test : X → Bool
       test y = decide (discrete x y)
 
       once : length (keep test (x ∷ l)) ≡ 1 + length (keep test l)
-      once = keep-cons test x l ∙ ap (λ (u : Bool). pick u 1 0 + length (keep test l)) ((decide_iff (discrete x x)).1 refl)
+      once = keep_cons test x l ∙ ap (λ (u : Bool). pick u 1 0 + length (keep test l)) ((decide_iff (discrete x x)).1 refl)
 
       found : (y : X) × Memᴰ y o × (test y ≡ true)
-      found = some-kept test o (omega (arith, once, h test))
+      found = some_kept test o (omega (arith, once, h test))
 
       s : Split x o
       s = split_at (subst (λ (y : X). Memᴰ y o) (sym ((decide_iff (discrete x found.0)).0 found.2)) found.1)
@@ -146,11 +146,11 @@ module _ {X : Type 0} (discrete : Discrete X) where
       fewer t =
           omega (
             arith,
-            keep-cons t x l,
-            keep-cons t x (s.before ++ s.after),
-            h t ∙ ap (λ (k : List X). length (keep t k)) s.split ∙ order-count moved t,
+            keep_cons t x l,
+            keep_cons t x (s.before ++ s.after),
+            h t ∙ ap (λ (k : List X). length (keep t k)) s.split ∙ order_count moved t,
           )
 
   -- so an order is what the words say
-  pub order-exactly : (l o : List X) → OrderOf l o ↔ AsOften l o
-  order-exactly l o = (order-count, count-order l o)
+  pub order_exactly : (l o : List X) → OrderOf l o ↔ AsOften l o
+  order_exactly l o = (order_count, count_order l o)

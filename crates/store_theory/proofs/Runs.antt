@@ -9,12 +9,12 @@ use Prim.Native.Nat.{ℕ}
 use lib.ListN.{length, get_or}
 use Rattle.lists.specs.Choices.{pick}
 use Rattle.lists.specs.Lists.{keep}
-use Rattle.lists.proofs.Kept.{kept-is, is-kept, keep-none}
-use Rattle.store_theory.specs.Plans.{Plan, after, outcome, SucceedsAt, succeedsAt, Covers}
+use Rattle.lists.proofs.Kept.{kept_is, is_kept, keep-none}
+use Rattle.store_theory.specs.Plans.{Plan, after, outcome, SucceedsAt, succeeds_at, Covers}
 use Rattle.store_theory.specs.Series.{leaves}
 use Rattle.store_theory.specs.Stores.{All}
 use Rattle.store_theory.proofs.Series.{leaves-length}
-use Rattle.store_theory.proofs.Plans.{PlanInside, length-after, after-other, after-agree, covers, succeeds-exactly, not_at}
+use Rattle.store_theory.proofs.Plans.{PlanInside, length-after, after_other, after_agree, covers, succeeds_exactly, not_at}
 
 module _ {X Answer : Type 0} (P : X → Plan Answer) where
   -- the file after them
@@ -22,20 +22,20 @@ module _ {X Answer : Type 0} (P : X → Plan Answer) where
   carried g l = leaves (λ f s. outcome f (P s)) g l
 
   -- it is as long
-  pub length-carried : (g : List ℕ) (l : List X) → length (carried g l) ≡ length g
+  pub length_carried : (g : List ℕ) (l : List X) → length (carried g l) ≡ length g
   unfolding outcome
-  length-carried g l = leaves-length (λ f s. outcome f (P s)) (λ f s. length-after f (P s)) g l
+  length_carried g l = leaves-length (λ f s. outcome f (P s)) (λ f s. length-after f (P s)) g l
 
   -- a byte that no store covers is left as it is
   pub carried_other : (i : ℕ) (g : List ℕ) (l : List X) → All (λ s. ¬ Covers i (P s)) l → get_or (carried g l) i 0 ≡ get_or g i 0
   unfolding leaves outcome
   carried_other i g [] h = refl
   carried_other i g (s ∷ l) h =
-      carried_other i (after g (P s)) l (λ t m. h t (Memᴰ.tail m)) ∙ after-other g (P s) i (h s (Memᴰ.head refl))
+      carried_other i (after g (P s)) l (λ t m. h t (Memᴰ.tail m)) ∙ after_other g (P s) i (h s (Memᴰ.head refl))
 
   -- the members that succeed at an address
   abbrev pub here : ℕ → List X → List X
-  here a l = keep (λ s. succeedsAt a (P s)) l
+  here a l = keep (λ s. succeeds_at a (P s)) l
 
   -- at a byte that only stores at address a cover, these alone count
   pub carried_here : (n i a : ℕ) (g k : List ℕ) (l : List X) → All (λ s. Covers i (P s) → SucceedsAt a (P s)) l
@@ -44,7 +44,7 @@ module _ {X Answer : Type 0} (P : X → Plan Answer) where
   unfolding leaves outcome keep
   carried_here n i a g k [] h fit lg lk e = e
   carried_here n i a g k (s ∷ l) h fit lg lk e =
-      step (succeedsAt a (P s)) refl
+      step (succeeds_at a (P s)) refl
       (carried_here n i a (after g (P s)) (after k (P s)) l h' fit' q (length-after k (P s) ∙ lk))
       (carried_here n i a (after g (P s)) k l h' fit' q lk)
     where
@@ -57,29 +57,29 @@ module _ {X Answer : Type 0} (P : X → Plan Answer) where
       q : length (after g (P s)) ≡ n
       q = length-after g (P s) ∙ lg
 
-      elsewhere : succeedsAt a (P s) ≡ false → ¬ Covers i (P s)
-      elsewhere u c = false≢true (sym u ∙ (succeeds-exactly a (P s)).1 (h s (Memᴰ.head refl) c))
+      elsewhere : succeeds_at a (P s) ≡ false → ¬ Covers i (P s)
+      elsewhere u c = false≢true (sym u ∙ (succeeds_exactly a (P s)).1 (h s (Memᴰ.head refl) c))
 
-      step : (u : Bool) → succeedsAt a (P s) ≡ u
+      step : (u : Bool) → succeeds_at a (P s) ≡ u
           → (get_or (after g (P s)) i 0 ≡ get_or (after k (P s)) i 0 → get_or (carried (after g (P s)) l) i 0 ≡ get_or (carried (after k (P s)) (here a l)) i 0)
           → (get_or (after g (P s)) i 0 ≡ get_or k i 0 → get_or (carried (after g (P s)) l) i 0 ≡ get_or (carried k (here a l)) i 0)
           → get_or (carried (after g (P s)) l) i 0 ≡ get_or (carried k (pick u (s ∷ here a l) (here a l))) i 0
-      step true u both one = both (after-agree n g k (P s) i lg lk (fit s (Memᴰ.head refl)) e)
-      step false u both one = one (after-other g (P s) i (elsewhere u) ∙ e)
+      step true u both one = both (after_agree n g k (P s) i lg lk (fit s (Memᴰ.head refl)) e)
+      step false u both one = one (after_other g (P s) i (elsewhere u) ∙ e)
 
   -- a member that succeeds at the address is one of them
-  pub mem-here : (a : ℕ) {s : X} {l : List X} → Memᴰ s l → SucceedsAt a (P s) → Memᴰ s (here a l)
-  mem-here a {s} m w = is-kept (λ s. succeedsAt a (P s)) m ((succeeds-exactly a (P s)).1 w)
+  pub mem_here : (a : ℕ) {s : X} {l : List X} → Memᴰ s l → SucceedsAt a (P s) → Memᴰ s (here a l)
+  mem_here a {s} m w = is_kept (λ s. succeeds_at a (P s)) m ((succeeds_exactly a (P s)).1 w)
 
   -- and each of them is such a member
-  pub here-mem : (a : ℕ) (s : X) (l : List X) → Memᴰ s (here a l) → Memᴰ s l × SucceedsAt a (P s)
-  here-mem a s l m =
-      let r = kept-is (λ s. succeedsAt a (P s)) s l m in
-      (r.0, (succeeds-exactly a (P s)).0 r.1)
+  pub here_mem : (a : ℕ) (s : X) (l : List X) → Memᴰ s (here a l) → Memᴰ s l × SucceedsAt a (P s)
+  here_mem a s l m =
+      let r = kept_is (λ s. succeeds_at a (P s)) s l m in
+      (r.0, (succeeds_exactly a (P s)).0 r.1)
 
   -- where no member succeeds at the address there is none
   pub none_here : (a : ℕ) (l : List X) → All (λ t. ¬ SucceedsAt a (P t)) l → here a l ≡ []
-  none_here a l h = keep-none (λ s. succeedsAt a (P s)) l (λ s m. not_at a (P s) (h s m))
+  none_here a l h = keep-none (λ s. succeeds_at a (P s)) l (λ s m. not_at a (P s) (h s m))
 
   -- a member that covers a byte, or none does
   pub find : (i : ℕ) (l : List X) → ((s : X) × Memᴰ s l × Covers i (P s)) ⊎ All (λ s. ¬ Covers i (P s)) l

@@ -10,10 +10,10 @@ use lib.ListN.{length, get_or}
 use lib.Seq.{length-sets}
 use borrow.Author.Tests.{eqb-true, eq-eqb, ltb-true}
 use Rattle.lists.specs.Choices.{pick}
-use Rattle.lists.proofs.Parts.{get_d_part}
+use Rattle.lists.proofs.Parts.{get_or-part}
 use Rattle.store_theory.specs.Plans.{Plan, write, refuse, outcome, Holds}
 use Rattle.store_theory.specs.Series.{leaves, replies}
-use Rattle.store_theory.specs.Stores.{fileAfter, answers}
+use Rattle.store_theory.specs.Stores.{file_after, answers}
 use Rattle.store_theory.specs.Claims.{Demand3}
 use Rattle.store_theory.specs.Formats.{Format, plan, system, Writes, FormatLaws}
 use Rattle.store_theory.proofs.Plans.{refuse-write}
@@ -33,8 +33,8 @@ data Answer : Type 0 where
   stored stale outside : Answer
 
 -- an index outside the file is refused
-abbrev putByte : Put → Plan Answer
-putByte s = pick (ltb s.index s.size) (write stored s.index (s.byte ∷ [])) (refuse outside)
+abbrev put_byte : Put → Plan Answer
+put_byte s = pick (ltb s.index s.size) (write stored s.index (s.byte ∷ [])) (refuse outside)
 
 abbrev cells : Format Put (Unit {0}) ℕ Answer ℕ
 cells =
@@ -42,11 +42,11 @@ cells =
       key = λ s. tt;
       grid = λ s. 0;
       Typed = λ s. Unit {0};
-      open-as = λ f k g. length f;
+      open_as = λ f k g. length f;
       layout = λ s. s.size;
       same = λ s x. eqb x s.size;
       stale = stale;
-      when-fresh = putByte;
+      when_fresh = put_byte;
       read = λ f s. get_or f s.index 0;
       number = λ s. s.byte;
     }
@@ -57,7 +57,7 @@ record Is (s : Put) (a : ℕ) (b : List ℕ) : Type 0 where
   address : a ≡ s.index
   bytes : b ≡ s.byte ∷ []
 
-written : (s : Put) (r : Answer) (a : ℕ) (b : List ℕ) → putByte s ≡ write r a b → Is s a b
+written : (s : Put) (r : Answer) (a : ℕ) (b : List ℕ) → put_byte s ≡ write r a b → Is s a b
 written s r a b = step (ltb s.index s.size) refl
   where
     step : (t : Bool) → ltb s.index s.size ≡ t → pick t (write stored s.index (s.byte ∷ [])) (refuse outside) ≡ write r a b
@@ -72,7 +72,7 @@ held : (f : List ℕ) (s : Put) (a : ℕ) (b : List ℕ) → Is s a b → Holds 
 held f s a b i h =
     let here : s.index ≡ a + 0 = omega (arith, i.address) in
     ap (λ (x : ℕ). get_or f x 0) here
-    ∙ sym (get_d_part a (length b) f 0 0 (omega (arith, ap length i.bytes)))
+    ∙ sym (get_or-part a (length b) f 0 0 (omega (arith, ap length i.bytes)))
     ∙ ap (λ (l : List ℕ). get_or l 0 0) (h ∙ i.bytes)
 
 laws : FormatLaws cells
@@ -94,7 +94,7 @@ order-free = demand3 cells laws tt
 abbrev puts : List Put
 puts = put 3 0 7 ∷ put 4 1 8 ∷ put 3 2 9 ∷ []
 
-bytes_left : fileAfter (system cells tt) (1 ∷ 2 ∷ 3 ∷ []) puts ≡ 7 ∷ 2 ∷ 9 ∷ []
+bytes_left : file_after (system cells tt) (1 ∷ 2 ∷ 3 ∷ []) puts ≡ 7 ∷ 2 ∷ 9 ∷ []
 unfolding leaves outcome plan
 bytes_left = refl
 

@@ -4,7 +4,7 @@
 -- Assumes nothing.
 use Rattle.std.specs.Prelude.{◌≡◌, List, [], ◌∷◌, ◌++◌, map, ℕ, length}
 use Rattle.store_theory.specs.Series.{leaves, replies}
-use Rattle.store_theory.specs.Stores.{System, OrderOf, All, alone, fileAfter, answers, storesAt, Distinct}
+use Rattle.store_theory.specs.Stores.{System, OrderOf, All, alone, file_after, answers, stores_at, Distinct}
 use Rattle.store_theory.specs.Claims.{OrderFree, LastStands}
 
 -- what a call is told: for the call as a whole, and in its answer slots; "answer slot" is request 3's term
@@ -33,20 +33,20 @@ module _ {Store Answer Opened Value : Type 0} (S : System Store Answer Opened Va
           → C.whole f c ≡ C.whole g c
 
     -- what a call is told on a file, and the file that it leaves: what the contract of a function that makes such a call says
-    unfoldable pub callOutcome : List ℕ → Call → Told Whole Answer × List ℕ
-    callOutcome f c = (record { whole = C.whole f c; slots = answers S f (C.makes f c) }, fileAfter S f (C.makes f c))
+    unfoldable pub call_outcome : List ℕ → Call → Told Whole Answer × List ℕ
+    call_outcome f c = (record { whole = C.whole f c; slots = answers S f (C.makes f c) }, file_after S f (C.makes f c))
 
     -- the file after a list of calls made one after another
-    abbrev pub fileAfterCalls : List ℕ → List Call → List ℕ
-    fileAfterCalls f l = leaves callOutcome f l
+    abbrev pub file_after_calls : List ℕ → List Call → List ℕ
+    file_after_calls f l = leaves call_outcome f l
 
     -- what each of a list of calls made one after another is told
     abbrev pub told : List ℕ → List Call → List (Told Whole Answer)
-    told f l = replies callOutcome f l
+    told f l = replies call_outcome f l
 
     -- what a call is told alone on a file, each item answered as its single store alone
-    abbrev pub toldAlone : List ℕ → Call → Told Whole Answer
-    toldAlone f c = record { whole = C.whole f c; slots = map (alone S f) (C.makes f c) }
+    abbrev pub told_alone : List ℕ → Call → Told Whole Answer
+    told_alone f c = record { whole = C.whole f c; slots = map (alone S f) (C.makes f c) }
 
     -- the stores that the calls of a list make, alone on a file
     unfoldable pub items : List ℕ → List Call → List Store
@@ -57,8 +57,8 @@ module _ {Store Answer Opened Value : Type 0} (S : System Store Answer Opened Va
     -- order, leaves those bytes; and each of its calls is told what it would be told alone on the file as it came.
     pub record CallsFree (f : List ℕ) (l : List Call) : Type 0 where
       pub stores : OrderFree S f (items f l)
-      pub same : (m : List Call) → All C.Fit m → OrderOf (items f l) (items f m) → fileAfterCalls f m ≡ stores.bytes
-      pub answered : (m : List Call) → All C.Fit m → told f m ≡ map (toldAlone f) m
+      pub same : (m : List Call) → All C.Fit m → OrderOf (items f l) (items f m) → file_after_calls f m ≡ stores.bytes
+      pub answered : (m : List Call) → All C.Fit m → told f m ≡ map (told_alone f) m
 
     -- demand 3 over calls, of every file and every list of calls no two of whose items succeed at the same place
     abbrev pub Demand3Calls : Type 0
@@ -68,12 +68,12 @@ module _ {Store Answer Opened Value : Type 0} (S : System Store Answer Opened Va
     -- another; and each call of both is told what it would be told alone on the file as it came.
     pub record CallsLast (f : List ℕ) (l m : List Call) : Type 0 where
       pub stores : LastStands S f (items f l) (items f m)
-      pub same : fileAfterCalls f l ≡ fileAfterCalls f m
-      pub made : fileAfterCalls f l ≡ fileAfter S f (items f l)
-      pub answered : told f l ≡ map (toldAlone f) l
-      pub answered' : told f m ≡ map (toldAlone f) m
+      pub same : file_after_calls f l ≡ file_after_calls f m
+      pub made : file_after_calls f l ≡ file_after S f (items f l)
+      pub answered : told f l ≡ map (told_alone f) l
+      pub answered' : told f m ≡ map (told_alone f) m
 
     -- request 13 over calls, of every file and every two lists of calls whose items are the same, each as often, with those at the same place in the same order
     abbrev pub Request13Calls : Type 0
     Request13Calls = (f : List ℕ) (l m : List Call) → All C.Fit l → All C.Fit m → OrderOf (items f l) (items f m)
-        → ((a : ℕ) → storesAt S f a (items f l) ≡ storesAt S f a (items f m)) → CallsLast f l m
+        → ((a : ℕ) → stores_at S f a (items f l) ≡ stores_at S f a (items f m)) → CallsLast f l m

@@ -5,14 +5,14 @@ use Rattle.std.specs.Prelude.{◌≡◌, ℕ, length, get_or}
 use mathlib.Core.List.{List, [], ◌∷◌, ◌++◌, map, Memᴰ}
 use Rattle.store_theory.specs.Plans.{SucceedsAt, Covers}
 use Rattle.store_theory.specs.Series.{Run}
-use Rattle.store_theory.specs.Stores.{System, OrderOf, All, alone, stores, fileAfter, answers, storesAt, Distinct}
+use Rattle.store_theory.specs.Stores.{System, OrderOf, All, alone, stores, file_after, answers, stores_at, Distinct}
 
 module _ {Store Answer Opened Value : Type 0} (S : System Store Answer Opened Value) where
   -- Demand 3 of one file f and one list l of stores. Each field is a sentence of the demand.
   pub record OrderFree (f : List ℕ) (l : List Store) : Type 0 where
     -- "All orders leave the same bytes": these
     pub bytes : List ℕ
-    pub same : (o : List Store) → OrderOf l o → fileAfter S f o ≡ bytes
+    pub same : (o : List Store) → OrderOf l o → file_after S f o ≡ bytes
     -- "Then for every such list, in every order, each store gets the answer it would get alone on the file as it came."
     pub answered : (o : List Store) → OrderOf l o → answers S f o ≡ map (alone S f) o
     -- "each stored place reads back its number"
@@ -25,7 +25,7 @@ module _ {Store Answer Opened Value : Type 0} (S : System Store Answer Opened Va
 
   -- Demand 3: "Take any file, accepted or not, one kind and one byte order, and any list of stores into its samples, grid points or MD fields, refused ones included.
   -- Each store has a layout of that kind and order, stale or not, and no two that succeed name the same place." Kind, order and layouts are in `Fit`. Which of the
-  -- stores succeed, and where, is judged on the file as it came; that it is the same on the file that a store gets in its turn is the law `plan_after`.
+  -- stores succeed, and where, is judged on the file as it came; that it is the same on the file that a store gets in its turn is the law `plan-after`.
   abbrev pub Demand3 : Type 0
   Demand3 = (f : List ℕ) (l : List Store) → All S.Fit l → Distinct S f l → OrderFree f l
 
@@ -44,18 +44,18 @@ module _ {Store Answer Opened Value : Type 0} (S : System Store Answer Opened Va
   -- Request 13 of one file f and two lists l and m of stores.
   pub record LastStands (f : List ℕ) (l m : List Store) : Type 0 where
     -- "both leave the same bytes"
-    pub same : fileAfter S f l ≡ fileAfter S f m
+    pub same : file_after S f l ≡ file_after S f m
     -- "each stored place with its last number": s is the last of the list's stores at address a
-    pub stored : (a : ℕ) (before : List Store) (s : Store) → storesAt S f a l ≡ before ++ s ∷ [] → S.read (fileAfter S f l) s ≡ S.number s
+    pub stored : (a : ℕ) (before : List Store) (s : Store) → stores_at S f a l ≡ before ++ s ∷ [] → S.read (file_after S f l) s ≡ S.number s
     -- "each store gets the same answer": the one it would get alone on the file as it came
     pub answered : answers S f l ≡ map (alone S f) l
     pub answered' : answers S f m ≡ map (alone S f) m
     -- every other byte is the old one, there are as many, and opening answers as before
-    pub others : (i : ℕ) → All (λ s. ¬ Covers i (S.plan f s)) l → get_or (fileAfter S f l) i 0 ≡ get_or f i 0
-    pub size : length (fileAfter S f l) ≡ length f
-    pub opening : S.opening (fileAfter S f l) ≡ S.opening f
+    pub others : (i : ℕ) → All (λ s. ¬ Covers i (S.plan f s)) l → get_or (file_after S f l) i 0 ≡ get_or f i 0
+    pub size : length (file_after S f l) ≡ length f
+    pub opening : S.opening (file_after S f l) ≡ S.opening f
 
   -- Request 13: the two lists "hold the same stores, each as often", and "stores to the same place stand in the same order in both".
   abbrev pub Request13 : Type 0
-  Request13 = (f : List ℕ) (l m : List Store) → All S.Fit l → OrderOf l m → ((a : ℕ) → storesAt S f a l ≡ storesAt S f a m)
+  Request13 = (f : List ℕ) (l m : List Store) → All S.Fit l → OrderOf l m → ((a : ℕ) → stores_at S f a l ≡ stores_at S f a m)
       → LastStands f l m

@@ -16,14 +16,14 @@ pub record Format (Store Key Opened Answer Value : Type 0) : Type 1 where
   -- the store's number is one that the type of a number to store has: "0 to 4,294,967,295 for AREA and a signed word otherwise"
   pub Typed : Store → Type 0
   -- what opening a file by a key and a grid number answers
-  pub open-as : List ℕ → Key → ℕ → Opened
+  pub open_as : List ℕ → Key → ℕ → Opened
   -- the answer of opening that is the store's layout, and whether an answer is that very one
   pub layout : Store → Opened
   pub same : Store → Opened → Bool
   -- what a store with a stale layout is answered
   pub stale : Answer
   -- what a store with a fresh layout does
-  pub when-fresh : Store → Plan Answer
+  pub when_fresh : Store → Plan Answer
   -- the single read of a store's place with its layout, and its answer where the place holds the store's number
   pub read : List ℕ → Store → Value
   pub number : Store → Value
@@ -31,11 +31,11 @@ pub record Format (Store Key Opened Answer Value : Type 0) : Type 1 where
 module _ {Store Key Opened Answer Value : Type 0} (F : Format Store Key Opened Answer Value) where
   -- opening the file gives the store's layout
   abbrev pub FreshStore : List ℕ → Store → Type 0
-  FreshStore f s = F.open-as f (F.key s) (F.grid s) ≡ F.layout s
+  FreshStore f s = F.open_as f (F.key s) (F.grid s) ≡ F.layout s
 
   -- what a store does to a file: it is refused where its layout is stale, and else does what a store with a fresh layout does
   unfoldable pub plan : List ℕ → Store → Plan Answer
-  plan f s = pick (F.same s (F.open-as f (F.key s) (F.grid s))) (F.when-fresh s) (refuse F.stale)
+  plan f s = pick (F.same s (F.open_as f (F.key s) (F.grid s))) (F.when_fresh s) (refuse F.stale)
 
   -- the stores whose layout is of key k and whose numbers have their type; opening answers for every grid number
   abbrev pub system : Key → System Store Answer (ℕ → Opened) Value
@@ -43,7 +43,7 @@ module _ {Store Key Opened Answer Value : Type 0} (F : Format Store Key Opened A
       record {
         Fit = λ s. (F.key s ≡ k) × F.Typed s;
         plan = plan;
-        opening = λ f g. F.open-as f k g;
+        opening = λ f g. F.open_as f k g;
         read = F.read;
         number = F.number;
       }
@@ -53,7 +53,7 @@ module _ {Store Key Opened Answer Value : Type 0} (F : Format Store Key Opened A
     pub typed : F.Typed s
     pub fresh : FreshStore f s
     pub told : Answer
-    pub planned : F.when-fresh s ≡ write told a b
+    pub planned : F.when_fresh s ≡ write told a b
 
   -- What a format owes, of its layouts and of stores that succeed.
   pub record FormatLaws : Type 0 where
@@ -63,7 +63,7 @@ module _ {Store Key Opened Answer Value : Type 0} (F : Format Store Key Opened A
     pub inside : {f : List ℕ} {s : Store} {a : ℕ} {b : List ℕ} → Writes f s a b → a + length b ≤ length f
     -- after a store opening answers as before, for every grid number
     pub frame : {f : List ℕ} {s : Store} {a : ℕ} {b : List ℕ} → Writes f s a b → (g : ℕ)
-        → F.open-as (sets f a b) (F.key s) g ≡ F.open-as f (F.key s) g
+        → F.open_as (sets f a b) (F.key s) g ≡ F.open_as f (F.key s) g
     -- all places of one file and key are equally wide and stand at multiples of the width from one base, so that two of them
     -- are equal or share no byte
     pub base : List ℕ → Key → ℕ

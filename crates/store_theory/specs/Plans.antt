@@ -32,9 +32,9 @@ module _ {Answer : Type 0} where
   SucceedsAt c (refuse r) = ⊥
 
   -- whether the store succeeds, and its place is at address c
-  abbrev pub succeedsAt : ℕ → Plan Answer → Bool
-  succeedsAt c (write r a b) = eqb a c
-  succeedsAt c (refuse r) = false
+  abbrev pub succeeds_at : ℕ → Plan Answer → Bool
+  succeeds_at c (write r a b) = eqb a c
+  succeeds_at c (refuse r) = false
 
   -- the store succeeds, and byte i is in its place
   abbrev pub Covers : ℕ → Plan Answer → Type 0

@@ -4,7 +4,7 @@ use Rattle.std.specs.Prelude.{◌≡◌, ℕ, ◌+◌, ◌≤◌, ◌<◌, lengt
 use mathlib.Core.List.{List, [], ◌∷◌, Memᴰ, Permᴰ}
 use Rattle.std.proofs.lemmas.List.Edits.{sets}
 use Rattle.lists.specs.Lists.{keep}
-use Rattle.store_theory.specs.Plans.{Plan, write, answer, outcome, SucceedsAt, succeedsAt, Holds}
+use Rattle.store_theory.specs.Plans.{Plan, write, answer, outcome, SucceedsAt, succeeds_at, Holds}
 use Rattle.store_theory.specs.Series.{leaves, replies}
 
 -- the second list is an order of the first: it has the same members, each as often (a permutation)
@@ -37,16 +37,16 @@ module _ {Store Answer Opened Value : Type 0} (S : System Store Answer Opened Va
   stores f s = outcome f (S.plan f s)
 
   -- the file after a list of stores made one after another
-  abbrev pub fileAfter : List ℕ → List Store → List ℕ
-  fileAfter f l = leaves stores f l
+  abbrev pub file_after : List ℕ → List Store → List ℕ
+  file_after f l = leaves stores f l
 
   -- what each of a list of stores made one after another is answered
   abbrev pub answers : List ℕ → List Store → List Answer
   answers f l = replies stores f l
 
   -- the stores of a list that succeed at an address, alone on a file
-  unfoldable pub storesAt : List ℕ → ℕ → List Store → List Store
-  storesAt f a l = keep (λ s. succeedsAt a (S.plan f s)) l
+  unfoldable pub stores_at : List ℕ → ℕ → List Store → List Store
+  stores_at f a l = keep (λ s. succeeds_at a (S.plan f s)) l
 
   -- no two stores of a list that succeed, alone on a file, have the same address
   abbrev pub Distinct : List ℕ → List Store → Type 0
@@ -62,7 +62,7 @@ module _ {Store Answer Opened Value : Type 0} (S : System Store Answer Opened Va
   -- What the order of stores rests on. Each is a law of one or two stores on one file.
   pub record Laws : Type 0 where
     -- a store's plan depends on the file through what opening answers and the file's length alone
-    pub by-opening : (f g : List ℕ) (s : Store) → S.Fit s → S.opening f ≡ S.opening g → length f ≡ length g → S.plan f s ≡ S.plan g s
+    pub by_opening : (f g : List ℕ) (s : Store) → S.Fit s → S.opening f ≡ S.opening g → length f ≡ length g → S.plan f s ≡ S.plan g s
     -- a place is inside the file
     pub inside : {f : List ℕ} {s : Store} {a : ℕ} {b : List ℕ} → Succeeds f s a b → a + length b ≤ length f
     -- a store leaves what opening answers

@@ -2,8 +2,8 @@
 // and a refusal changes nothing. What each does is its plan; that the order of stores does not matter is shown in store_rules.
 ghost use Rattle.std.specs.Prelude.{◌≡◌, ◌^◌, ◌≤◌, ◌+◌, ltb, length};
 ghost use Rattle.store_theory.specs.Plans.{outcome};
-ghost use Rattle.store_rules.specs.Stores.{put_at, storeSample, storePoint, storeField};
-ghost use Rattle.store_rules.specs.Answers.{storeSays, storeAt};
+ghost use Rattle.store_rules.specs.Stores.{put_at, store_sample, store_point, store_field};
+ghost use Rattle.store_rules.specs.Answers.{store_says, store_at};
 
 use area_rules::SlotOrBand;
 use endian::unsigned;
@@ -32,7 +32,7 @@ fn fits_width(number: u32, width: usize) -> bool
 // Puts a number at a place. Refused with 8 where it does not fit the place's bytes.
 fn put(file: &mut [u8], order: Order, place: Place, number: u32) -> StoreAnswer
     requires { ((1 ≤ place.width) × (place.width ≤ 4)) × (place.address + place.width ≤ length file.old) }
-    ensures { (storeSays result, file.new) ≡ outcome file.old (put_at order number place) }
+    ensures { (store_says result, file.new) ≡ outcome file.old (put_at order number place) }
 {
     if fits_width(number, place.width) {
         write_number(order, place.width, file, place.address, number);
@@ -47,7 +47,7 @@ fn put(file: &mut [u8], order: Order, place: Place, number: u32) -> StoreAnswer
 
 // Stores the number that a value's bits are.
 fn store(file: &mut [u8], layout: Layout, name: ValueName, number: u32) -> StoreAnswer
-    ensures { (storeSays result, file.new) ≡ storeAt file.old layout name number }
+    ensures { (store_says result, file.new) ≡ store_at file.old layout name number }
 {
     let order = order_of(layout);
     match place_in(file, layout, name) {
@@ -66,7 +66,7 @@ pub fn store_sample(
     which: SlotOrBand,
     number: u32,
 ) -> StoreAnswer
-    ensures { (storeSays result, file.new) ≡ storeSample file.old layout line element which number }
+    ensures { (store_says result, file.new) ≡ store_sample file.old layout line element which number }
 {
     let sample = ValueName::Sample {
         line: line,
@@ -84,7 +84,7 @@ pub fn store_point(
     column: u32,
     value: i32,
 ) -> StoreAnswer
-    ensures { (storeSays result, file.new) ≡ storePoint file.old layout row column value }
+    ensures { (store_says result, file.new) ≡ store_point file.old layout row column value }
 {
     let point = ValueName::Point {
         row: row,
@@ -102,7 +102,7 @@ pub fn store_field(
     position: u32,
     value: i32,
 ) -> StoreAnswer
-    ensures { (storeSays result, file.new) ≡ storeField file.old layout row column position value }
+    ensures { (store_says result, file.new) ≡ store_field file.old layout row column position value }
 {
     let field = ValueName::Field {
         row: row,

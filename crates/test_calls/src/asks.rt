@@ -59,7 +59,7 @@ const DOCUMENTATION: u32 = 12;
 // The word `calibration LINE`.
 const CALIBRATION: u32 = 13;
 
-// The word `band-list LINE`.
+// The word `band_list LINE`.
 const BAND_LIST: u32 = 14;
 
 // The word `padding LINE`.
@@ -77,10 +77,10 @@ const FIELD: u32 = 18;
 // The word `key NUMBER BYTES`: the name is the first bytes of the four bytes of a number in big order with four zeros behind them.
 const KEY: u32 = 19;
 
-// The word `by-columns PLACES`.
+// The word `by_columns_lem PLACES`.
 const BY_COLUMNS: u32 = 20;
 
-// The word `by_rows PLACES`. `record PLACES ROW COLUMN` has the next, and is the last word that reads.
+// The word `by_rows_lem PLACES`. `record PLACES ROW COLUMN` has the next, and is the last word that reads.
 const BY_ROWS: u32 = 21;
 
 // The word `store-sample LINE ELEMENT SLOT NUMBER`, the first word that stores.

@@ -1,13 +1,13 @@
 // Texts that bytes and numbers are appended to, in room for 512 bytes.
 ghost use Rattle.std.specs.Prelude.{◌≡◌};
 ghost use Rattle.listing_rules.specs.Page.{labelled};
-ghost use Rattle.listing_rules.specs.Steps.{appendByte, appendBytes};
+ghost use Rattle.listing_rules.specs.Steps.{append_byte, append_bytes};
 
 use listing_rules::Text;
 
 // A text with a byte behind it, which is left out where there is no room.
 fn append_byte(text: Text, byte: u8) -> Text
-    ensures { result ≡ appendByte text byte }
+    ensures { result ≡ append_byte text byte }
 {
     let at = text.count;
     let mut bytes = text.bytes;
@@ -24,7 +24,7 @@ fn append_byte(text: Text, byte: u8) -> Text
 
 // A text with bytes behind it; those are left out for which there is no room.
 pub fn append_bytes(text: Text, more: &[u8]) -> Text
-    ensures { result ≡ appendBytes text more.now }
+    ensures { result ≡ append_bytes text more.now }
 {
     let mut t = text;
     let mut i = 0;
@@ -37,7 +37,7 @@ pub fn append_bytes(text: Text, more: &[u8]) -> Text
 
 // A text with a word behind it, and behind the word the decimal digits of a number; bytes are left out for which there is no room.
 pub fn append_number(text: Text, word: &[u8], n: u64) -> Text
-    ensures { result ≡ appendBytes text (labelled word.now n) }
+    ensures { result ≡ append_bytes text (labelled word.now n) }
 {
     let mut digits = [0u8; 20];
     let count = io::decimal(n, &mut digits);
@@ -46,7 +46,7 @@ pub fn append_number(text: Text, word: &[u8], n: u64) -> Text
 
 // A text with two numbers behind it, each behind a word; bytes are left out for which there is no room.
 pub fn append_two(text: Text, word: &[u8], n: u64, other: &[u8], m: u64) -> Text
-    ensures { result ≡ appendBytes (appendBytes text (labelled word.now n)) (labelled other.now m) }
+    ensures { result ≡ append_bytes (append_bytes text (labelled word.now n)) (labelled other.now m) }
 {
     append_number(append_number(text, word, n), other, m)
 }

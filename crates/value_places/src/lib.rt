@@ -1,7 +1,7 @@
 // Where a named value of a file of any kind lies, by a layout alone: the samples of an AREA file, the points of a grid, the fields of an MD file.
 ghost use Rattle.std.specs.Prelude.{◌≡◌};
-ghost use Rattle.refusal_rules.specs.Answers.{placeSays};
-ghost use Rattle.value_rules.specs.Places.{placeOf};
+ghost use Rattle.refusal_rules.specs.Answers.{place_says};
+ghost use Rattle.value_rules.specs.Places.{place_of};
 
 use area_places::sample_place;
 use grid_places::point_place;
@@ -23,7 +23,7 @@ fn no_such() -> PlaceAnswer
 // Where a named value lies, by a layout alone. Refused with 7 where the layout is of another kind than the name, then with 4 at 19 where a band is named and
 // the band map is unusable, then with 7 where there is no such line, element, slot, band, point or field, or the layout is above the bounds that opening sets.
 pub fn place_of(layout: Layout, name: ValueName) -> PlaceAnswer
-    ensures { placeSays result ≡ placeOf layout name }
+    ensures { place_says result ≡ place_of layout name }
 {
     match name {
         ValueName::Sample {

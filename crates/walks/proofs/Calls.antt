@@ -76,12 +76,12 @@ module _ {M : Type 1} {𝓤 : Ura M} {𝓛 : Logic 𝓤} {K : Type 0} {Γ : List
   asks t {C} fm {f} c met x k = use1 𝓛 (raw (C f (c.args x) (c.post x))) (met x) $ onward t fm k
 
   -- what the callee leaves is taken apart
-  pub call-answers : K → (T : Ended) (c : Clauses 𝓤 T) (y : (Contracted 𝓛 T c).Ghost) (w : Val) {P : SProp 𝓤}
+  pub call_answers : K → (T : Ended) (c : Clauses 𝓤 T) (y : (Contracted 𝓛 T c).Ghost) (w : Val) {P : SProp 𝓤}
       → ((r : Res T.signature y.0.0) → Is (type_at T.signature.result y.0.0) r (w ∷ []) → (ws : Lasts T y.0.0 y.0.3)
       → Seq K 𝓛 (raw ((c y.0.0 y.0.3).ensures y.1 r (at_exit T y.0.0 y.0.3 ws)) ∷ raw (toks 𝓛 T.signature.lifetimes y.0.0 y.0.1) ∷ ‵
       (lasts T y.0.0 y.0.3 ws) ∷ Γ) (upd P))
       → Seq K 𝓛 (raw ((Contracted 𝓛 T c).post y w) ∷ Γ) (upd P)
-  call-answers t T c y w k =
+  call_answers t T c y w k =
       let R : RattleType = type_at T.signature.result y.0.0 in
       use1 𝓛 (later (some (λ (r : Res T.signature y.0.0). (raw (toks 𝓛 T.signature.lifetimes y.0.0 y.0.1) ⊛ ‵ (R.own_val r (w ∷ []))) ⊛ raw
       (ensured 𝓛 T c y.0.0 y.0.3 y.1 r)))) (id⊢ 𝓤 _) $ await t tt $ pick t (λ r.
@@ -98,7 +98,7 @@ module _ {M : Type 1} {𝓤 : Ura M} {𝓛 : Logic 𝓤} {K : Type 0} {Γ : List
   -- val gives the result's machine value, which is of the local's type
   open 𝓛 use {H}
 
-  pub calls-into : K → {C : Calls 𝓤 H} {Λ : Loops 𝓤 H} {q : Post 𝓤 H} → FmC 𝓤 H 𝓛.laws C → {f : Name} {xs : List Operand} {x : ℕ} {rest : Body} {vs : List Val}
+  pub calls_into : K → {C : Calls 𝓤 H} {Λ : Loops 𝓤 H} {q : Post 𝓤 H} → FmC 𝓤 H 𝓛.laws C → {f : Name} {xs : List Operand} {x : ℕ} {rest : Body} {vs : List Val}
       (n : ℕ) (R : RattleType) (val : R.Denot → Val) → Tells R (Is R) (λ r. val r ∷ []) → (Z : R.Denot → SProp 𝓤)
       → Opds K 𝓛 (raw (C f vs (Yields 𝓤 H R Z)) ∷ Γ) E xs vs
       → ((r : R.Denot) → nth 𝓛 n (raw (Z r) ∷ Γ) ≡ ‵ (froom (spot_of 𝓤 H E x).0 (spot_of 𝓤 H E x).1 (spot_of 𝓤 H E x).2))
@@ -106,7 +106,7 @@ module _ {M : Type 1} {𝓤 : Ura M} {𝓛 : Logic 𝓤} {K : Type 0} {Γ : List
       → ((r : R.Denot) → Is R r (val r ∷ [])
       → Seq K 𝓛 (put 𝓛 n (‵ (fat full_share (spot_of 𝓤 H E x).0 (spot_of 𝓤 H E x).1 (spot_of 𝓤 H E x).2 (val r))) (raw (Z r) ∷ Γ)) (runs C Λ E rest q))
       → Seq K 𝓛 (raw (C f vs (Yields 𝓤 H R Z)) ∷ Γ) (runs C Λ E (seq (call f xs (place x [])) rest) q)
-  calls-into t {C} {Λ} {q} fm {f} {xs} {x} {rest} {vs} n R val tells Z os room fits k =
+  calls_into t {C} {Λ} {q} fm {f} {xs} {x} {rest} {vs} n R val tells Z os room fits k =
       calls t fm (λ w. later (some (λ (r : R.Denot). given (Is R r (w ∷ [])) (raw (Z r))))) os (λ w. await t tt $ pick t (λ r. learn t (λ is.
       let e : w ≡ val r = ap only (tells r (w ∷ []) is) in
       let is' : Is R r (val r ∷ []) = at_value R (λ z. val z ∷ []) tells r (w ∷ []) is in
@@ -131,7 +131,7 @@ module _ {M : Type 1} {𝓤 : Ura M} (𝓛 : Logic 𝓤) (n : ℕ) (κs : Lfts n
 -- u is the machine value of s, of its type and related to it
 pub record ValueIs (R : RattleType) (vals : R.Denot → List Val) (s : R.Denot) (u : Val) : Type 0 where
   pub typed : Typed R.mir (u ∷ [])
-  pub is-value : u ∷ [] ≡ vals s
+  pub is_value : u ∷ [] ≡ vals s
   pub is : Is R s (vals s)
 
 -- y is what the callee is passed
@@ -149,29 +149,29 @@ module _ {M : Type 1} {𝓤 : Ura M} (𝓛 : Logic 𝓤) (C : Calls 𝓤 𝓛.H)
   Owned = ‵ (owns (types_at T.signature.params y.0.0) y.0.3 y.0.4)
 
   -- by its contract Q holds of its answer, and F is what else there is
-  pub call-yields : (Q : R.Denot → Type 0) → ((r : Res T.signature y.0.0) (e : AtExit T y.0.0) → ent 𝓤 ((c y.0.0 y.0.3).ensures y.1 r e) (fact 𝓤 (Q r)))
+  pub call_yields : (Q : R.Denot → Type 0) → ((r : Res T.signature y.0.0) (e : AtExit T y.0.0) → ent 𝓤 ((c y.0.0 y.0.3).ensures y.1 r e) (fact 𝓤 (Q r)))
       → (F : SProp 𝓤) (f : Name) → Triple 𝓤 (C f) (Contracted 𝓛 T c) → ent 𝓤 (emp 𝓤) ((c y.0.0 y.0.3).requires y.1)
       → ent 𝓤 (sep 𝓤 Tokens (sep 𝓤 (sem 𝓛 (owns (types_at T.signature.params y.0.0) y.0.3 y.0.4)) F))
       (C f ((Contracted 𝓛 T c).args y) (Yields 𝓤 H R (λ r. guard 𝓤 (Q r) (sep 𝓤 Tokens F))))
-  call-yields Q says F f known asked =
+  call_yields Q says F f known asked =
       qed 𝓛 (raw Tokens ∷ Owned ∷ raw F ∷ []) ∵ join ! $ use0 𝓛 (raw ((c y.0.0 y.0.3).requires y.1)) asked $ move ! (1 ∷ 0 ∷ []) $
-      use2 𝓛 (raw ((Contracted 𝓛 T c).pre y)) (id⊢ 𝓤 _) $ asks ! fm (Contracted 𝓛 T c) known y (λ u. updating ! $ call-answers ! T c y u (λ r is ws.
+      use2 𝓛 (raw ((Contracted 𝓛 T c).pre y)) (id⊢ 𝓤 _) $ asks ! fm (Contracted 𝓛 T c) known y (λ u. updating ! $ call_answers ! T c y u (λ r is ws.
       use1 𝓛 (raw (fact 𝓤 (Q r))) (says r (at_exit T y.0.0 y.0.3 ws)) $ heard ! (Q r) (λ holds. move ! (1 ∷ []) $ drop ! $ at_once ! $
       show ! (λ (z : R.Denot). guard 𝓤 (Is R z (u ∷ [])) (guard 𝓤 (Q z) (sep 𝓤 Tokens F))) r $ check ! is $ check ! holds $ done !)))
 
   -- by its contract its answer is s
-  pub call-answered : (s : Res T.signature y.0.0)
+  pub call_answered : (s : Res T.signature y.0.0)
       → ((r : Res T.signature y.0.0) (e : AtExit T y.0.0) → ent 𝓤 ((c y.0.0 y.0.3).ensures y.1 r e) (fact 𝓤 (r ≡ s)))
       → (vals : R.Denot → List Val) → Tells R (Is R) vals → Lawful 𝓛 R → (z : R.Denot) → s ≡ z → (F : SProp 𝓤) (f : Name)
       → Triple 𝓤 (C f) (Contracted 𝓛 T c) → ent 𝓤 (emp 𝓤) ((c y.0.0 y.0.3).requires y.1)
       → ent 𝓤 (sep 𝓤 Tokens (sep 𝓤 (sem 𝓛 (owns (types_at T.signature.params y.0.0) y.0.3 y.0.4)) F))
       (C f ((Contracted 𝓛 T c).args y) (λ u. H.⇛ (guard 𝓤 (ValueIs R vals z u) (sep 𝓤 Tokens F))))
-  call-answered s says vals tells lawful z e F f known asked =
+  call_answered s says vals tells lawful z e F f known asked =
       qed 𝓛 (raw (sep 𝓤 Tokens (sep 𝓤 (sem 𝓛 (owns (types_at T.signature.params y.0.0) y.0.3 y.0.4)) F)) ∷ []) ∵
-      use1 𝓛 (raw (C f ((Contracted 𝓛 T c).args y) (Yields 𝓤 H R (λ r. guard 𝓤 (r ≡ s) (sep 𝓤 Tokens F))))) (call-yields (λ r. r ≡ s) says F f known asked) $
+      use1 𝓛 (raw (C f ((Contracted 𝓛 T c).args y) (Yields 𝓤 H R (λ r. guard 𝓤 (r ≡ s) (sep 𝓤 Tokens F))))) (call_yields (λ r. r ≡ s) says F f known asked) $
       onward ! fm (λ u. updating ! $ use1 𝓛 (later (some (λ (r : R.Denot). given (Is R r (u ∷ [])) (given (r ≡ s) (raw (sep 𝓤 Tokens F)))))) (id⊢ 𝓤 _) $ await ! tt $
       pick ! (λ r. learn ! (λ is. learn ! (λ eq. at_once ! $ check ! (record {
         typed = lawful.typed r (u ∷ []) is;
-        is-value = tells r (u ∷ []) is ∙ ap vals (eq ∙ e);
+        is_value = tells r (u ∷ []) is ∙ ap vals (eq ∙ e);
         is = subst (λ (w : R.Denot). Is R w (vals w)) (eq ∙ e) (at_value R vals tells r (u ∷ []) is);
       }) $ done !))))

@@ -48,8 +48,8 @@ module _ {M : Type 1} {𝓤 : Ura M} (𝓛 : Logic 𝓤) (T : Ended) (c : Clause
   Ensures = (κs : Lfts T.signature.lifetimes) (a : Args T.signature κs) → (c κs a).ghost → Res T.signature κs → AtExit T κs → SProp 𝓤
 
   -- the clauses that ensure that
-  abbrev pub with-ensures : Ensures → Clauses 𝓤 T
-  with-ensures E κs a = record { ghost = (c κs a).ghost; requires = (c κs a).requires; ensures = E κs a }
+  abbrev pub with_ensures : Ensures → Clauses 𝓤 T
+  with_ensures E κs a = record { ghost = (c κs a).ghost; requires = (c κs a).requires; ensures = E κs a }
 
   -- it follows from what c ensures
   abbrev pub Follows : Ensures → Type 1
@@ -59,7 +59,7 @@ module _ {M : Type 1} {𝓤 : Ura M} (𝓛 : Logic 𝓤) (T : Ended) (c : Clause
 module _ {M : Type 1} {𝓤 : Ura M} (𝓛 : Logic 𝓤) (T : Ended) (c : Clauses 𝓤 T) where
   -- the rule of consequence, of what a contract ensures
   pub follows : (E : Ensures 𝓛 T c) → Follows 𝓛 T c E → (run : Fun 𝓤) → FmF 𝓤 run → Triple 𝓤 run (Contracted 𝓛 T c)
-      → Triple 𝓤 run (Contracted 𝓛 T (with-ensures 𝓛 T c E))
+      → Triple 𝓤 run (Contracted 𝓛 T (with_ensures 𝓛 T c E))
   follows E implies run fm met y =
       let κs = y.0.0 in
       let a = y.0.3 in
@@ -67,10 +67,10 @@ module _ {M : Type 1} {𝓤 : Ura M} (𝓛 : Logic 𝓤) (T : Ended) (c : Clause
       via 𝓤 (run ((Contracted 𝓛 T c).args y) ((Contracted 𝓛 T c).post y)) (met y)
       (fm→mono 𝓤 (run ((Contracted 𝓛 T c).args y)) (fm ((Contracted 𝓛 T c).args y)) _ _ (λ u.
       𝓛.laws.⇛_mono _ _ (ex_e 𝓤 (λ (x : Res T.signature κs). sep 𝓤 (Back 𝓛 T.signature y.0 u x) (ensured 𝓛 T c κs a g x)) (λ x.
-      via 𝓤 (sep 𝓤 (Back 𝓛 T.signature y.0 u x) (ensured 𝓛 T (with-ensures 𝓛 T c E) κs a g x))
+      via 𝓤 (sep 𝓤 (Back 𝓛 T.signature y.0 u x) (ensured 𝓛 T (with_ensures 𝓛 T c E) κs a g x))
       (mono_r 𝓤 (Back 𝓛 T.signature y.0 u x)
       (ex_e 𝓤 (λ (ws : Lasts T κs a). sep 𝓤 (sem 𝓛 (lasts T κs a ws)) ((c κs a).ensures g x (at_exit T κs a ws))) (λ ws.
       via 𝓤 (sep 𝓤 (sem 𝓛 (lasts T κs a ws)) (E κs a g x (at_exit T κs a ws)))
       (mono_r 𝓤 (sem 𝓛 (lasts T κs a ws)) (implies κs a g x (at_exit T κs a ws)))
       (ex_i 𝓤 (λ (zs : Lasts T κs a). sep 𝓤 (sem 𝓛 (lasts T κs a zs)) (E κs a g x (at_exit T κs a zs))) ws))))
-      (ex_i 𝓤 (λ (z : Res T.signature κs). sep 𝓤 (Back 𝓛 T.signature y.0 u z) (ensured 𝓛 T (with-ensures 𝓛 T c E) κs a g z)) x)))))
+      (ex_i 𝓤 (λ (z : Res T.signature κs). sep 𝓤 (Back 𝓛 T.signature y.0 u z) (ensured 𝓛 T (with_ensures 𝓛 T c E) κs a g z)) x)))))

@@ -95,8 +95,8 @@ module _ (R : RattleType) (ℓ : Lifetime) (κ : Lft) (q : Share) (x : MutBor (L
         move t (1 ∷ 2 ∷ 0 ∷ []) $ k μ δ)))
 
     -- it comes back, as it was
-    pub returns-home : K → Soaks G → {μ : ℕ} (ys : List R.Denot) → Step K 𝓛 (‵ (HasSlice ys) ∷ Γ) G (‵ (flft (μ ∷ []) full_share) ∷ ‵ (Shared μ ys) ∷ Γ) G
-    returns-home t z {μ} ys = step (λ s. move t (1 ∷ []) $ fsplit t $ pure_l t (mut_slice_at R (at_last x ys) (v ∷ [])) (λ p. fsplit t $
+    pub returns_home : K → Soaks G → {μ : ℕ} (ys : List R.Denot) → Step K 𝓛 (‵ (HasSlice ys) ∷ Γ) G (‵ (flft (μ ∷ []) full_share) ∷ ‵ (Shared μ ys) ∷ Γ) G
+    returns_home t z {μ} ys = step (λ s. move t (1 ∷ []) $ fsplit t $ pure_l t (mut_slice_at R (at_last x ys) (v ∷ [])) (λ p. fsplit t $
         -- [the lender's part; what else is kept; μ's token; …]
         move t (2 ∷ []) $ lft_end t z $ lent_back t z $ fsplit t $ drop t $ move t (1 ∷ []) $ fsplit t $ move t (1 ∷ []) $ fsplit t $ move t (3 ∷ 2 ∷ 0 ∷ 1 ∷ []) $
         closes_slice t z R ys ys refl x.ptr.0 x.ptr.1 $ fjoin t $ pure_i t (mut_slice_at R (at_last x ys) (v ∷ [])) (tt, (tt, tt)) p $ fjoin t $ fjoin t $ s))

@@ -53,8 +53,8 @@ module _ {n : ℕ} where
   one_of T L few = record { slot = plain (λ _. E.row T); vals = λ κs. EL.vals T L; tell = λ κs. EL.tells T L; lawful = λ 𝓛 κs. EL.lawful T L 𝓛 few }
 
   -- a struct
-  abbrev pub record_of : (T : S.Declared) → LL.Laws T → Known n
-  record_of T L = record { slot = plain (λ _. S.row T); vals = λ κs. LL.vals T L; tell = λ κs. LL.tells T L; lawful = λ 𝓛 κs. LL.lawful T L 𝓛 }
+  abbrev pub record_of_lem : (T : S.Declared) → LL.Laws T → Known n
+  record_of_lem T L = record { slot = plain (λ _. S.row T); vals = λ κs. LL.vals T L; tell = λ κs. LL.tells T L; lawful = λ 𝓛 κs. LL.lawful T L 𝓛 }
 
   -- a `&'j [R]`
   abbrev pub shared : (j : ℕ) → AllWithin n (j ∷ []) → RattleType → Known n
@@ -95,8 +95,8 @@ module _ {n : ℕ} where
     tells (k ∷ ks) = (k.tell κs, tells ks)
 
     -- the machine values of a, in a row
-    abbrev pub passed-as : (ks : List (Known n)) → Denots (rows ks) → List Val
-    passed-as ks a = flat (rows ks) (valss (rows ks) (spells ks) a)
+    abbrev pub passed_as : (ks : List (Known n)) → Denots (rows ks) → List Val
+    passed_as ks a = flat (rows ks) (valss (rows ks) (spells ks) a)
 
     -- a is related to its machine values
     abbrev pub Related : (ks : List (Known n)) → Denots (rows ks) → Type 0
@@ -108,7 +108,7 @@ module _ {n : ℕ} where
       lawfuls (k ∷ ks) = (k.lawful 𝓛 κs, lawfuls ks)
 
       -- they are of their MIR types
-      pub typed : (ks : List (Known n)) (a : Denots (rows ks)) → Related ks a → Typed (mirs (rows ks)) (passed-as ks a)
+      pub typed : (ks : List (Known n)) (a : Denots (rows ks)) → Related ks a → Typed (mirs (rows ks)) (passed_as ks a)
       typed ks a are = all_Typed 𝓛 (rows ks) (lawfuls ks) a (valss (rows ks) (spells ks) a) are
 
   -- a signature with these parameters and this result
@@ -136,8 +136,8 @@ module _ {n : ℕ} where
   enum T L few plain-parts silent = record { known = one_of T L few; silent = silent; makes = λ 𝓛 κs. EL.makes T plain-parts 𝓛 }
 
   -- a struct
-  abbrev pub struct : (T : S.Declared) (L : LL.Laws T) → Plains (S.fields T) → Silent {n = n} (record_of T L) → Value n
-  struct T L plain-parts silent = record { known = record_of T L; silent = silent; makes = λ 𝓛 κs. LL.makes T plain-parts 𝓛 }
+  abbrev pub struct : (T : S.Declared) (L : LL.Laws T) → Plains (S.fields T) → Silent {n = n} (record_of_lem T L) → Value n
+  struct T L plain-parts silent = record { known = record_of_lem T L; silent = silent; makes = λ 𝓛 κs. LL.makes T plain-parts 𝓛 }
 
   -- the types of a list of them
   abbrev pub types_of : List (Value n) → List (Known n)
@@ -150,9 +150,9 @@ module _ {n : ℕ} where
     make (v ∷ vs) = (v.makes 𝓛 κs, make vs)
 
     -- what they own is had for nothing
-    pub owned-values : (vs : List (Value n)) (a : Denots (rows κs (types_of vs))) → Related κs (types_of vs) a
+    pub owned_values : (vs : List (Value n)) (a : Denots (rows κs (types_of vs))) → Related κs (types_of vs) a
         → ent 𝓤 (emp 𝓤) (sem 𝓛 (owns (rows κs (types_of vs)) a (valss (rows κs (types_of vs)) (spells κs (types_of vs)) a)))
-    owned-values vs a are = owns_make 𝓛 (rows κs (types_of vs)) (Ises (rows κs (types_of vs))) (make vs) a
+    owned_values vs a are = owns_make 𝓛 (rows κs (types_of vs)) (Ises (rows κs (types_of vs))) (make vs) a
         (valss (rows κs (types_of vs)) (spells κs (types_of vs)) a) are
 
 -- ---- parameters

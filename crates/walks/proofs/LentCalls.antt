@@ -31,10 +31,10 @@ use denote.Steps.{only, heard, nothing}
 use denote.Triple.Clauses.{Clauses, Ended, AtExit}
 use denote.Triple.Entry.{Args}
 use denote.Triple.Statement.{Triple}
-use Rattle.walks.proofs.Calls.{Yields, asks, call-answers}
+use Rattle.walks.proofs.Calls.{Yields, asks, call_answers}
 use Rattle.walks.proofs.Contracts.{Contracted}
-use Rattle.walks.proofs.Known.{Known, lent, shared, rows, spells, passed-as, Related, ended, Value, types_of, owned-values}
-use Rattle.walks.proofs.Held.{under, HasSlice, lends, comes_home, lends_shared, returns-home}
+use Rattle.walks.proofs.Known.{Known, lent, shared, rows, spells, passed_as, Related, ended, Value, types_of, owned_values}
+use Rattle.walks.proofs.Held.{under, HasSlice, lends, comes_home, lends_shared, returns_home}
 
 -- a call with a `&mut [E]`
 abbrev pub TakesMut : (E : RattleType) (m : ℕ) → List (Known (suc m)) → RattleType → Ended
@@ -67,8 +67,8 @@ module _ (E : RattleType) (ℓ : Lifetime) (κ : Lft) (q : Share) (x : Bor (List
     vals ν = valss (rows (ν ∷ [], κs) ks) (spells (ν ∷ [], κs) ks) (rest ν)
 
     -- the call runs with the slice as `&mut`
-    pub lends-mut : (callee : Name) → Triple 𝓤 (C callee) (Contracted 𝓛 (TakesMut E m ks R) c)
-        → (us : List Val) → ((ν : ℕ) → passed-as (ν ∷ [], κs) ks (rest ν) ≡ us)
+    pub lends_mut : (callee : Name) → Triple 𝓤 (C callee) (Contracted 𝓛 (TakesMut E m ks R) c)
+        → (us : List Val) → ((ν : ℕ) → passed_as (ν ∷ [], κs) ks (rest ν) ≡ us)
         → (P : SProp 𝓤) → ((ν : ℕ) → ent 𝓤 P (sem 𝓛 (owns (rows (ν ∷ [], κs) ks) (rest ν) (vals ν))))
         → (g : (ν : ℕ) (δ : GName) → (c (ν ∷ [], κs) (args ν δ)).ghost)
         → ((ν : ℕ) (δ : GName) → ent 𝓤 (emp 𝓤) ((c (ν ∷ [], κs) (args ν δ)).requires (g ν δ))) → (Q : R.Denot → List E.Denot → Type 0)
@@ -76,7 +76,7 @@ module _ (E : RattleType) (ℓ : Lifetime) (κ : Lft) (q : Share) (x : Bor (List
         → ent 𝓤 ((c (ν ∷ [], κs) (args ν δ)).ensures (g ν δ) r e) (fact 𝓤 (Q r e.0.now)))
         → ent 𝓤 (⋆ 𝓛 (‵ (Whole ys) ∷ raw (toks 𝓛 m κs qs) ∷ raw P ∷ []))
         (H.⇛ (C callee (v ∷ us) (Yields 𝓤 H R (λ r. ex 𝓤 (λ (zs : List E.Denot). guard 𝓤 (Q r zs) (sep 𝓤 (sem 𝓛 (Whole zs)) (toks 𝓛 m κs qs)))))))
-    lends-mut callee known us us-are P had g asked Q said =
+    lends_mut callee known us us-are P had g asked Q said =
         let Ends : R.Denot → List E.Denot → SProp 𝓤 = λ r zs. guard 𝓤 (Q r zs) (sep 𝓤 (sem 𝓛 (Whole zs)) (toks 𝓛 m κs qs)) in
         qed 𝓛 (‵ (Whole ys) ∷ raw (toks 𝓛 m κs qs) ∷ raw P ∷ []) ∵ updating ! $ lends E ℓ κ q x v ! tt (named 0) ys (λ ν δ.
         let to : (Contracted 𝓛 (TakesMut E m ks R) c).Ghost = (((ν ∷ [], κs), (full_share, qs), tt, args ν δ, (v ∷ [], vals ν)), g ν δ) in
@@ -87,7 +87,7 @@ module _ (E : RattleType) (ℓ : Lifetime) (κ : Lft) (q : Share) (x : Bor (List
         use0 𝓛 (raw ((c (ν ∷ [], κs) (args ν δ)).requires (g ν δ))) (asked ν δ) $ move ! (1 ∷ 0 ∷ []) $
         use2 𝓛 (raw ((Contracted 𝓛 (TakesMut E m ks R) c).pre to)) (id⊢ 𝓤 _) $
         asks ! fm (Contracted 𝓛 (TakesMut E m ks R) c) known to
-        (λ w. updating ! $ call-answers ! (TakesMut E m ks R) c to w (λ r is ws. use1 𝓛 (raw (fact 𝓤 (Q r ws.0))) (said ν δ r _) $ heard ! (Q r ws.0) (λ holds.
+        (λ w. updating ! $ call_answers ! (TakesMut E m ks R) c to w (λ r is ws. use1 𝓛 (raw (fact 𝓤 (Q r ws.0))) (said ν δ r _) $ heard ! (Q r ws.0) (λ holds.
         -- [the tokens; the last lists; what is kept of the slice]
         use1 𝓛 (‵ (flft (ν ∷ []) full_share) ⊛ raw (toks 𝓛 m κs qs)) (id⊢ 𝓤 _) $ split ! $ move ! (2 ∷ []) $ fsplit ! $ fsplit ! $ move ! (1 ∷ []) $ feq_l ! (λ len.
         move ! (2 ∷ 4 ∷ 0 ∷ []) $ comes_home E ℓ κ q x v ! tt ys ws.0 len $ at_once ! $
@@ -99,12 +99,12 @@ module _ (E : RattleType) (ℓ : Lifetime) (κ : Lft) (q : Share) (x : Bor (List
     abbrev shown : (μ : ℕ) (ε : GName) → Args (TakesShr E (types_of vs) R).signature (μ ∷ [], tt)
     shown μ ε = (under E ℓ κ q x v ε ys, rest μ)
 
-    abbrev vals-shown : (μ : ℕ) → Valss (rows (μ ∷ [], tt) (types_of vs))
-    vals-shown μ = valss (rows (μ ∷ [], tt) (types_of vs)) (spells (μ ∷ [], tt) (types_of vs)) (rest μ)
+    abbrev vals_shown : (μ : ℕ) → Valss (rows (μ ∷ [], tt) (types_of vs))
+    vals_shown μ = valss (rows (μ ∷ [], tt) (types_of vs)) (spells (μ ∷ [], tt) (types_of vs)) (rest μ)
 
     -- the call runs with the slice as `&`
     pub lends_shr : (callee : Name) → Triple 𝓤 (C callee) (Contracted 𝓛 (TakesShr E (types_of vs) R) c)
-        → (us : List Val) → ((μ : ℕ) → passed-as (μ ∷ [], tt) (types_of vs) (rest μ) ≡ us)
+        → (us : List Val) → ((μ : ℕ) → passed_as (μ ∷ [], tt) (types_of vs) (rest μ) ≡ us)
         → ((μ : ℕ) → Related (μ ∷ [], tt) (types_of vs) (rest μ)) → (g : (μ : ℕ) (ε : GName) → (c (μ ∷ [], tt) (shown μ ε)).ghost)
         → ((μ : ℕ) (ε : GName) → ent 𝓤 (emp 𝓤) ((c (μ ∷ [], tt) (shown μ ε)).requires (g μ ε))) → (Q : R.Denot → Type 0)
         → ((μ : ℕ) (ε : GName) (r : R.Denot) (e : AtExit (TakesShr E (types_of vs) R) (μ ∷ [], tt))
@@ -112,17 +112,17 @@ module _ (E : RattleType) (ℓ : Lifetime) (κ : Lft) (q : Share) (x : Bor (List
         → ent 𝓤 (sem 𝓛 (Whole ys)) (H.⇛ (C callee (v ∷ us) (Yields 𝓤 H R (λ r. guard 𝓤 (Q r) (sem 𝓛 (Whole ys))))))
     lends_shr callee known us us-are are g asked Q said =
         qed 𝓛 (‵ (Whole ys) ∷ []) ∵ updating ! $ lends_shared E ℓ κ q x v ! tt (named 0) ys (λ μ ε.
-        let to : (Contracted 𝓛 (TakesShr E (types_of vs) R) c).Ghost = (((μ ∷ [], tt), (full_share, tt), tt, shown μ ε, (v ∷ [], vals-shown μ)), g μ ε) in
+        let to : (Contracted 𝓛 (TakesShr E (types_of vs) R) c).Ghost = (((μ ∷ [], tt), (full_share, tt), tt, shown μ ε, (v ∷ [], vals_shown μ)), g μ ε) in
         at_once ! $ regoal ! (λ (ws : List Val). prop (C callee (v ∷ ws) (Yields 𝓤 H R (λ r. guard 𝓤 (Q r) (sem 𝓛 (Whole ys)))))) (sym (us-are μ)) refl $
         -- [the slice, lent; μ's token; what is kept of it]
-        use0 𝓛 (‵ (owns (rows (μ ∷ [], tt) (types_of vs)) (rest μ) (vals-shown μ))) (owned-values 𝓛 (μ ∷ [], tt) vs (rest μ) (are μ)) $ move ! (1 ∷ 0 ∷ []) $
+        use0 𝓛 (‵ (owns (rows (μ ∷ [], tt) (types_of vs)) (rest μ) (vals_shown μ))) (owned_values 𝓛 (μ ∷ [], tt) vs (rest μ) (are μ)) $ move ! (1 ∷ 0 ∷ []) $
         fjoin ! $ nothing ! $ move ! (2 ∷ 0 ∷ []) $ join ! $ join ! $
         use0 𝓛 (raw ((c (μ ∷ [], tt) (shown μ ε)).requires (g μ ε))) (asked μ ε) $ move ! (1 ∷ 0 ∷ []) $
         use2 𝓛 (raw ((Contracted 𝓛 (TakesShr E (types_of vs) R) c).pre to)) (id⊢ 𝓤 _) $
         asks ! fm (Contracted 𝓛 (TakesShr E (types_of vs) R) c) known to
-        (λ w. updating ! $ call-answers ! (TakesShr E (types_of vs) R) c to w (λ r is ws. use1 𝓛 (raw (fact 𝓤 (Q r))) (said μ ε r _) $ heard ! (Q r) (λ holds.
+        (λ w. updating ! $ call_answers ! (TakesShr E (types_of vs) R) c to w (λ r is ws. use1 𝓛 (raw (fact 𝓤 (Q r))) (said μ ε r _) $ heard ! (Q r) (λ holds.
         -- [the tokens; the last lists; what is kept of the slice]
-        use1 𝓛 (‵ (flft (μ ∷ []) full_share) ⊛ ‵ ftrue) (id⊢ 𝓤 _) $ split ! $ move ! (0 ∷ 3 ∷ []) $ returns-home E ℓ κ q x v ! tt ys $ at_once ! $
+        use1 𝓛 (‵ (flft (μ ∷ []) full_share) ⊛ ‵ ftrue) (id⊢ 𝓤 _) $ split ! $ move ! (0 ∷ 3 ∷ []) $ returns_home E ℓ κ q x v ! tt ys $ at_once ! $
         show ! (λ (z : R.Denot). guard 𝓤 (Is R z (w ∷ [])) (guard 𝓤 (Q z) (sem 𝓛 (Whole ys)))) r $ check ! is $ check ! holds $ keep ! (0 ∷ []) $ done !))))
 
 -- x is lent as `&mut`, and z as `&`
@@ -149,7 +149,7 @@ module _ (E F : RattleType) (ℓ ℓ' : Lifetime) (κ κ' : Lft) (q q' : Share) 
 
       -- the call runs with x as `&mut` and z as `&`
       pub lends_both : (callee : Name) → Triple 𝓤 (C callee) (Contracted 𝓛 (TakesBoth E F (types_of vs) R) c) → (us : List Val)
-          → ((κs : Lfts 2) → passed-as κs (types_of vs) (rest κs) ≡ us)
+          → ((κs : Lfts 2) → passed_as κs (types_of vs) (rest κs) ≡ us)
           → ((κs : Lfts 2) → Related κs (types_of vs) (rest κs))
           → (g : (ν μ : ℕ) (δ ε : GName) → (c (ν ∷ [], (μ ∷ [], tt)) (lent-args ν μ δ ε)).ghost)
           → ((ν μ : ℕ) (δ ε : GName) → ent 𝓤 (emp 𝓤) ((c (ν ∷ [], (μ ∷ [], tt)) (lent-args ν μ δ ε)).requires (g ν μ δ ε))) → (Q : R.Denot → List E.Denot → Type 0)
@@ -167,16 +167,16 @@ module _ (E F : RattleType) (ℓ ℓ' : Lifetime) (κ κ' : Lft) (q q' : Share) 
           ((κs, (full_share, (full_share, tt)), tt, lent-args ν μ δ ε, (xv ∷ [], (zv ∷ [], vals-lent κs))), g ν μ δ ε) in
           at_once ! $ regoal ! (λ (ws : List Val). prop (C callee (xv ∷ zv ∷ ws) (Yields 𝓤 H R (λ r. ex 𝓤 (Ends r))))) (sym (us-are κs)) refl $
           -- [z, lent; μ's token; what is kept of it; x, lent; ν's token; what is kept of it]
-          use0 𝓛 (‵ (owns (rows κs (types_of vs)) (rest κs) (vals-lent κs))) (owned-values 𝓛 κs vs (rest κs) (are κs)) $ move ! (1 ∷ 0 ∷ []) $ fjoin ! $
+          use0 𝓛 (‵ (owns (rows κs (types_of vs)) (rest κs) (vals-lent κs))) (owned_values 𝓛 κs vs (rest κs) (are κs)) $ move ! (1 ∷ 0 ∷ []) $ fjoin ! $
           move ! (3 ∷ 0 ∷ []) $ fjoin ! $ nothing ! $
           move ! (2 ∷ 0 ∷ []) $ join ! $ move ! (3 ∷ 0 ∷ []) $ join ! $ move ! (0 ∷ 1 ∷ []) $ join ! $
           use0 𝓛 (raw ((c κs (lent-args ν μ δ ε)).requires (g ν μ δ ε))) (asked ν μ δ ε) $ move ! (1 ∷ 0 ∷ []) $
           use2 𝓛 (raw ((Contracted 𝓛 (TakesBoth E F (types_of vs) R) c).pre to)) (id⊢ 𝓤 _) $
-          asks ! fm (Contracted 𝓛 (TakesBoth E F (types_of vs) R) c) known to (λ w. updating ! $ call-answers ! (TakesBoth E F (types_of vs) R) c to w (λ r is ws.
+          asks ! fm (Contracted 𝓛 (TakesBoth E F (types_of vs) R) c) known to (λ w. updating ! $ call_answers ! (TakesBoth E F (types_of vs) R) c to w (λ r is ws.
           use1 𝓛 (raw (fact 𝓤 (Q r ws.0))) (said ν μ δ ε r _) $ heard ! (Q r ws.0) (λ holds.
           -- [the tokens; the last lists; what is kept of z; what is kept of x]
           use1 𝓛 (‵ (flft (ν ∷ []) full_share) ⊛ ‵ (flft (μ ∷ []) full_share) ⊛ ‵ ftrue) (id⊢ 𝓤 _) $ split ! $ move ! (1 ∷ []) $ split ! $ move ! (0 ∷ 4 ∷ []) $
-          returns-home F ℓ' κ' q' z zv ! tt zs $
+          returns_home F ℓ' κ' q' z zv ! tt zs $
           move ! (3 ∷ []) $ fsplit ! $ fsplit ! $ move ! (1 ∷ []) $
           feq_l ! (λ len. move ! (4 ∷ 5 ∷ 0 ∷ []) $ comes_home E ℓ κ q x xv ! tt xs ws.0 len $ at_once ! $
           show ! (λ (z : R.Denot). guard 𝓤 (Is R z (w ∷ [])) (ex 𝓤 (Ends z))) r $ check ! is $ show ! (Ends r) ws.0 $ check ! holds $ keep ! (0 ∷ 2 ∷ []) $
@@ -208,7 +208,7 @@ module _ (E F : RattleType) (ℓ : Lifetime) (κ κ' : Lft) (q q' : Share) (x : 
 
       -- the call runs with x as `&mut` and z as `&`
       pub lends-past : (callee : Name) → Triple 𝓤 (C callee) (Contracted 𝓛 (TakesBoth E F (types_of vs) R) c) → (us : List Val)
-          → ((κs : Lfts 2) → passed-as κs (types_of vs) (rest κs) ≡ us)
+          → ((κs : Lfts 2) → passed_as κs (types_of vs) (rest κs) ≡ us)
           → ((κs : Lfts 2) → Related κs (types_of vs) (rest κs))
           → (g : (ν : ℕ) (δ : GName) → (c (ν ∷ [], (κ', tt)) (past-args ν δ)).ghost)
           → ((ν : ℕ) (δ : GName) → ent 𝓤 (emp 𝓤) ((c (ν ∷ [], (κ', tt)) (past-args ν δ)).requires (g ν δ))) → (Q : R.Denot → List E.Denot → Type 0)
@@ -217,9 +217,9 @@ module _ (E F : RattleType) (ℓ : Lifetime) (κ κ' : Lft) (q q' : Share) (x : 
           → ent 𝓤 (⋆ 𝓛 (‵ (HasSlice E ℓ κ q x xv xs) ∷ raw Token ∷ raw (sem 𝓛 PassedOn) ∷ []))
           (H.⇛ (C callee (xv ∷ pv ∷ us) (Yields 𝓤 H R
           (λ r. ex 𝓤 (λ (zs : List E.Denot). guard 𝓤 (Q r zs) (sep 𝓤 (sem 𝓛 (HasSlice E ℓ κ q x xv zs)) Token))))))
-      lends-past callee known us us-are are g asked Q said = lends-mut E ℓ κ q x xv 𝓛 C fm xs 1 (κ', tt) (q', tt) (shared 1 tt F ∷ types_of vs) R c
+      lends-past callee known us us-are are g asked Q said = lends_mut E ℓ κ q x xv 𝓛 C fm xs 1 (κ', tt) (q', tt) (shared 1 tt F ∷ types_of vs) R c
           (λ ν. (z, rest (ν ∷ [], (κ', tt)))) callee known (pv ∷ us) (λ ν. ap (λ (ws : List Val). pv ∷ ws) (us-are (ν ∷ [], (κ', tt)))) (sem 𝓛 PassedOn)
           (λ ν. qed 𝓛 (‵ PassedOn ∷ []) ∵
           use0 𝓛 (‵ (owns (rows (ν ∷ [], (κ', tt)) (types_of vs)) (rest (ν ∷ [], (κ', tt))) (past-vals (ν ∷ [], (κ', tt)))))
-          (owned-values 𝓛 (ν ∷ [], (κ', tt)) vs (rest (ν ∷ [], (κ', tt))) (are (ν ∷ [], (κ', tt)))) $ move ! (1 ∷ 0 ∷ []) $ fjoin ! $ done !)
+          (owned_values 𝓛 (ν ∷ [], (κ', tt)) vs (rest (ν ∷ [], (κ', tt))) (are (ν ∷ [], (κ', tt)))) $ move ! (1 ∷ 0 ∷ []) $ fjoin ! $ done !)
           g asked Q said

@@ -122,15 +122,15 @@ module _ {M : Type 1} {𝓤 : Ura M} {K : Type 0} (𝓛 : Logic 𝓤) where
       → Seq K 𝓛 Δ (prop (WpFn 𝓤 H C Λ f vs Kf))
   starts t C Λ f vs Kf ts {Δ} k = enter t C Λ f vs Kf $ enters t f.locals vs ts Δ (λ bs. behind (cells 𝓤 H (env 𝓤 H f.locals bs) (empty ∷ holding vs)) Δ (k bs))
 
-  each-freed : K → (E : Env 𝓤 H) (hs : List Holding) (Γ : List (Item 𝓤)) {g : Goal 𝓤 H} → Seq K 𝓛 Γ g → Seq K 𝓛 (cells 𝓤 H E hs ++ Γ) (frees E g)
-  each-freed t [] hs Γ s = free0 t $ s
-  each-freed t (e ∷ E) [] Γ s = free1 t $ each-freed t E [] Γ s
-  each-freed t (e ∷ E) (empty ∷ hs) Γ s = free1 t $ each-freed t E hs Γ s
-  each-freed t (e ∷ E) (holds v ∷ hs) Γ s = forget t 0 refl $ free1 t $ each-freed t E hs Γ s
+  each_freed : K → (E : Env 𝓤 H) (hs : List Holding) (Γ : List (Item 𝓤)) {g : Goal 𝓤 H} → Seq K 𝓛 Γ g → Seq K 𝓛 (cells 𝓤 H E hs ++ Γ) (frees E g)
+  each_freed t [] hs Γ s = free0 t $ s
+  each_freed t (e ∷ E) [] Γ s = free1 t $ each_freed t E [] Γ s
+  each_freed t (e ∷ E) (empty ∷ hs) Γ s = free1 t $ each_freed t E hs Γ s
+  each_freed t (e ∷ E) (holds v ∷ hs) Γ s = forget t 0 refl $ free1 t $ each_freed t E hs Γ s
 
   -- Δ is the front, and the locals hold hs
   pub frees_all : K → (Δ : List (Item 𝓤)) (E : Env 𝓤 H) (hs : List Holding) {g : Goal 𝓤 H} → Seq K 𝓛 Δ g → Seq K 𝓛 (Δ ++ cells 𝓤 H E hs) (frees E g)
-  frees_all t Δ E hs s = behind Δ (cells 𝓤 H E hs) (each-freed t E hs Δ s)
+  frees_all t Δ E hs s = behind Δ (cells 𝓤 H E hs) (each_freed t E hs Δ s)
 
 module _ {M : Type 1} {𝓤 : Ura M} {𝓛 : Logic 𝓤} {K : Type 0} {Γ : List (Item 𝓤)} where
   -- entry n is the local, which is read
@@ -141,5 +141,5 @@ module _ {M : Type 1} {𝓤 : Ura M} {𝓛 : Logic 𝓤} {K : Type 0} {Γ : List
   at t n e = load t (from t (stop t)) (look t n e)
 
   -- the constant n
-  pub big-lit : K → {E : Env 𝓤 H} {w : Width} {n : ℕ} → Fits w n → Opd K 𝓛 Γ E (int_big w n) (vint w n)
-  big-lit t {E} {w} {n} fits = record { go = λ Kt h. via 𝓤 (Kt (vint w n)) h (guard_i 𝓤 (Fits w n) (Kt (vint w n)) fits) }
+  pub big_lit : K → {E : Env 𝓤 H} {w : Width} {n : ℕ} → Fits w n → Opd K 𝓛 Γ E (int_big w n) (vint w n)
+  big_lit t {E} {w} {n} fits = record { go = λ Kt h. via 𝓤 (Kt (vint w n)) h (guard_i 𝓤 (Fits w n) (Kt (vint w n)) fits) }

@@ -41,8 +41,8 @@ module _ (n : ℕ) (P : ℕ → Type 0) where
   Nearer j i = n - j.0 < n - i.0
 
   -- a loop comes to an end of them
-  pub nearer-wf : WellFounded Nearer
-  nearer-wf = InvImage.wf (λ (i : Upto). n - i.0) lt-wf_rel.wf
+  pub nearer_wf : WellFounded Nearer
+  nearer_wf = InvImage.wf (λ (i : Upto). n - i.0) lt-wf_rel.wf
 
 -- a turn's postcondition, where At i is all that there is at the start of a turn from i
 abbrev pub Turned : {M : Type 1} {𝓤 : Ura M} (𝓛 : Logic 𝓤) → Calls 𝓤 𝓛.H → Loops 𝓤 𝓛.H → Env 𝓤 𝓛.H → Body → (Val → SProp 𝓤)

@@ -27,7 +27,7 @@ use denote.Triple.Statement.{Triple}
 use denote.Triple.Table.{entered}
 use denote.Triple.Walked.{walk_of, walked, walk_Meets}
 use Rattle.walks.proofs.Contracts.{Contracted}
-use Rattle.walks.proofs.Known.{Parameter, knowns, stays, goes, rows, spells, tells, passed-as, Related, ended}
+use Rattle.walks.proofs.Known.{Parameter, knowns, stays, goes, rows, spells, tells, passed_as, Related, ended}
 
 module _ {n : ℕ} (ps : List (Parameter n)) (r : Slot n) {M : Type 1} {𝓤 : Ura M} (𝓛 : Logic 𝓤) (c : Clauses 𝓤 (ended (knowns ps) r)) where
   module _ (κs : Lfts n) (qs : Shares n) (a : Denots (rows κs (knowns ps))) (g : (c κs a).ghost) where
@@ -39,7 +39,7 @@ module _ {n : ℕ} (ps : List (Parameter n)) (r : Slot n) {M : Type 1} {𝓤 : U
   abbrev pub Walked : Fun 𝓤 → Type 1
   Walked run = (κs : Lfts n) (qs : Shares n) (a : Denots (rows κs (knowns ps))) (g : (c κs a).ghost) → Related κs (knowns ps) a
       → ent 𝓤 (sep 𝓤 (on_entry 𝓛 (ended (knowns ps) r).signature κs qs a (valss (rows κs (knowns ps)) (spells κs (knowns ps)) a)) ((c κs a).requires g))
-      (run (passed-as κs (knowns ps) a) (Finished κs qs a g))
+      (run (passed_as κs (knowns ps) a) (Finished κs qs a g))
 
 module _ {n : ℕ} (ps : List (Parameter n)) (r : Slot n) {M : Type 1} {𝓤 : Ura M} (𝓛 : Logic 𝓤) (𝓜 : Model 𝓤 𝓛.H) (𝓡 : Running 𝓤 𝓛.H 𝓜) (γ : Env) where
   -- the function of the name k

@@ -29,34 +29,34 @@ all_of [] = ftrue
 all_of (F ∷ Fs) = fsep F (all_of Fs)
 
 -- ---- a function's tokens, what its parameters own, and what is said of them at exit
-abbrev pub tokens-of : (n : ℕ) → Lfts n → Shares n → List Fml
-tokens-of zero κs qs = []
-tokens-of (suc n) κs qs = flft κs.0 qs.0 ∷ tokens-of n κs.1 qs.1
+abbrev pub tokens_of : (n : ℕ) → Lfts n → Shares n → List Fml
+tokens_of zero κs qs = []
+tokens_of (suc n) κs qs = flft κs.0 qs.0 ∷ tokens_of n κs.1 qs.1
 
-abbrev pub owned-of : (Ts : List RattleType) → Denots Ts → Valss Ts → List Fml
-owned-of [] a vs = []
-owned-of (T ∷ Ts) a vs = T.own_val a.0 vs.0 ∷ owned-of Ts a.1 vs.1
+abbrev pub owned_of : (Ts : List RattleType) → Denots Ts → Valss Ts → List Fml
+owned_of [] a vs = []
+owned_of (T ∷ Ts) a vs = T.own_val a.0 vs.0 ∷ owned_of Ts a.1 vs.1
 
-abbrev pub lasts-of : {n : ℕ} (κs : Lfts n) (ss : List (Slot n)) (ks : Kepts ss) (a : Denots (types_at ss κs)) → Fins κs ss ks a → List Fml
-lasts-of κs [] ks a ws = []
-lasts-of κs (s ∷ ss) ks a ws = left ((s.row κs).exit ks.0) a.0 ws.0 ∷ lasts-of κs ss ks.1 a.1 ws.1
+abbrev pub lasts_of : {n : ℕ} (κs : Lfts n) (ss : List (Slot n)) (ks : Kepts ss) (a : Denots (types_at ss κs)) → Fins κs ss ks a → List Fml
+lasts_of κs [] ks a ws = []
+lasts_of κs (s ∷ ss) ks a ws = left ((s.row κs).exit ks.0) a.0 ws.0 ∷ lasts_of κs ss ks.1 a.1 ws.1
 
 -- ---- with one more at the end
-abbrev pub with-lft : (n : ℕ) → Lfts n → Lft → Lfts (suc n)
-with-lft zero κs κ = (κ, tt)
-with-lft (suc n) κs κ = (κs.0, with-lft n κs.1 κ)
+abbrev pub with_lft : (n : ℕ) → Lfts n → Lft → Lfts (suc n)
+with_lft zero κs κ = (κ, tt)
+with_lft (suc n) κs κ = (κs.0, with_lft n κs.1 κ)
 
-abbrev pub with-share : (n : ℕ) → Shares n → Share → Shares (suc n)
-with-share zero qs q = (q, tt)
-with-share (suc n) qs q = (qs.0, with-share n qs.1 q)
+abbrev pub with_share : (n : ℕ) → Shares n → Share → Shares (suc n)
+with_share zero qs q = (q, tt)
+with_share (suc n) qs q = (qs.0, with_share n qs.1 q)
 
-abbrev pub with-arg : (Ts : List RattleType) (R : RattleType) → Denots Ts → R.Denot → Denots (Ts ++ R ∷ [])
-with-arg [] R a x = (x, tt)
-with-arg (T ∷ Ts) R a x = (a.0, with-arg Ts R a.1 x)
+abbrev pub with_arg : (Ts : List RattleType) (R : RattleType) → Denots Ts → R.Denot → Denots (Ts ++ R ∷ [])
+with_arg [] R a x = (x, tt)
+with_arg (T ∷ Ts) R a x = (a.0, with_arg Ts R a.1 x)
 
-abbrev pub with-val : (Ts : List RattleType) (R : RattleType) → Valss Ts → List Val → Valss (Ts ++ R ∷ [])
-with-val [] R vs us = (us, tt)
-with-val (T ∷ Ts) R vs us = (vs.0, with-val Ts R vs.1 us)
+abbrev pub with_val : (Ts : List RattleType) (R : RattleType) → Valss Ts → List Val → Valss (Ts ++ R ∷ [])
+with_val [] R vs us = (us, tt)
+with_val (T ∷ Ts) R vs us = (vs.0, with_val Ts R vs.1 us)
 
 -- so many that are true
 abbrev pub trues : ℕ → List Fml
@@ -65,17 +65,17 @@ trues (suc m) = ftrue ∷ trues m
 
 module _ {M : Type 1} {𝓤 : Ura M} (𝓛 : Logic 𝓤) where
   -- one more is joined to a row
-  pub at-end : (Fs : List Fml) (F : Fml) → ent 𝓤 (sep 𝓤 (sem 𝓛 (all_of Fs)) (sem 𝓛 F)) (sem 𝓛 (all_of (Fs ++ F ∷ [])))
-  at-end [] F = comm∗ 𝓤 (emp 𝓤) (sem 𝓛 F)
-  at-end (G ∷ Fs) F =
+  pub at_end : (Fs : List Fml) (F : Fml) → ent 𝓤 (sep 𝓤 (sem 𝓛 (all_of Fs)) (sem 𝓛 F)) (sem 𝓛 (all_of (Fs ++ F ∷ [])))
+  at_end [] F = comm∗ 𝓤 (emp 𝓤) (sem 𝓛 F)
+  at_end (G ∷ Fs) F =
       via 𝓤 (sep 𝓤 (sem 𝓛 G) (sep 𝓤 (sem 𝓛 (all_of Fs)) (sem 𝓛 F))) (assoc∗ 𝓤 (sem 𝓛 G) (sem 𝓛 (all_of Fs)) (sem 𝓛 F))
-      (mono_r 𝓤 (sem 𝓛 G) (at-end Fs F))
+      (mono_r 𝓤 (sem 𝓛 G) (at_end Fs F))
 
   -- the last is taken off a row
-  pub off-end : (Fs : List Fml) (F : Fml) → ent 𝓤 (sem 𝓛 (all_of (Fs ++ F ∷ []))) (sep 𝓤 (sem 𝓛 (all_of Fs)) (sem 𝓛 F))
-  off-end [] F = comm∗ 𝓤 (sem 𝓛 F) (emp 𝓤)
-  off-end (G ∷ Fs) F =
-      via 𝓤 (sep 𝓤 (sem 𝓛 G) (sep 𝓤 (sem 𝓛 (all_of Fs)) (sem 𝓛 F))) (mono_r 𝓤 (sem 𝓛 G) (off-end Fs F))
+  pub off_end : (Fs : List Fml) (F : Fml) → ent 𝓤 (sem 𝓛 (all_of (Fs ++ F ∷ []))) (sep 𝓤 (sem 𝓛 (all_of Fs)) (sem 𝓛 F))
+  off_end [] F = comm∗ 𝓤 (sem 𝓛 F) (emp 𝓤)
+  off_end (G ∷ Fs) F =
+      via 𝓤 (sep 𝓤 (sem 𝓛 G) (sep 𝓤 (sem 𝓛 (all_of Fs)) (sem 𝓛 F))) (mono_r 𝓤 (sem 𝓛 G) (off_end Fs F))
       (assoc' 𝓤 (sem 𝓛 G) (sem 𝓛 (all_of Fs)) (sem 𝓛 F))
 
   -- the last of a row are left out
@@ -84,30 +84,30 @@ module _ {M : Type 1} {𝓤 : Ura M} (𝓛 : Logic 𝓤) where
   front (F ∷ Fs) Gs = mono_r 𝓤 (sem 𝓛 F) (front Fs Gs)
 
   -- true ones are joined to a row
-  with-trues : (Fs : List Fml) (m : ℕ) → ent 𝓤 (sem 𝓛 (all_of Fs)) (sem 𝓛 (all_of (Fs ++ trues m)))
-  with-trues [] zero = id⊢ 𝓤 (emp 𝓤)
-  with-trues [] (suc m) = via 𝓤 (sem 𝓛 (all_of (trues m))) (with-trues [] m) (emp∗ 𝓤 (sem 𝓛 (all_of (trues m))))
-  with-trues (F ∷ Fs) m = mono_r 𝓤 (sem 𝓛 F) (with-trues Fs m)
+  with_trues : (Fs : List Fml) (m : ℕ) → ent 𝓤 (sem 𝓛 (all_of Fs)) (sem 𝓛 (all_of (Fs ++ trues m)))
+  with_trues [] zero = id⊢ 𝓤 (emp 𝓤)
+  with_trues [] (suc m) = via 𝓤 (sem 𝓛 (all_of (trues m))) (with_trues [] m) (emp∗ 𝓤 (sem 𝓛 (all_of (trues m))))
+  with_trues (F ∷ Fs) m = mono_r 𝓤 (sem 𝓛 F) (with_trues Fs m)
 
   module _ where
     -- Ts are the function's tokens, Os what its first parameters own and Ps what the last do; t is the token of the callee's own lifetime, and F what the callee's
     -- last parameter owns
-    pub enters-with : (Ts Os Ps : List Fml) (t F : Fml)
+    pub enters_with : (Ts Os Ps : List Fml) (t F : Fml)
         → ent 𝓤 (sep 𝓤 (sep 𝓤 (sep 𝓤 (sem 𝓛 (all_of Ts)) (sem 𝓛 (all_of (Os ++ Ps)))) (emp 𝓤)) (sep 𝓤 (sem 𝓛 t) (sem 𝓛 F)))
         (sep 𝓤 (sep 𝓤 (sem 𝓛 (all_of (Ts ++ t ∷ []))) (sem 𝓛 (all_of (Os ++ F ∷ [])))) (emp 𝓤))
-    enters-with Ts Os Ps t F =
+    enters_with Ts Os Ps t F =
         qed 𝓛 (((‵ (all_of Ts) ⊛ ‵ (all_of (Os ++ Ps))) ⊛ ‵ ftrue) ∷ ‵ t ∷ ‵ F ∷ []) ∵ split ! $ split ! $ move ! (0 ∷ 3 ∷ []) $
-        use2 𝓛 (‵ (all_of (Ts ++ t ∷ []))) (at-end Ts t) $ move ! (1 ∷ []) $ use1 𝓛 (‵ (all_of Os)) (front Os Ps) $ move ! (0 ∷ 3 ∷ []) $
-        use2 𝓛 (‵ (all_of (Os ++ F ∷ []))) (at-end Os F) $ move ! (1 ∷ 0 ∷ []) $ join ! $ done !
+        use2 𝓛 (‵ (all_of (Ts ++ t ∷ []))) (at_end Ts t) $ move ! (1 ∷ []) $ use1 𝓛 (‵ (all_of Os)) (front Os Ps) $ move ! (0 ∷ 3 ∷ []) $
+        use2 𝓛 (‵ (all_of (Os ++ F ∷ []))) (at_end Os F) $ move ! (1 ∷ 0 ∷ []) $ join ! $ done !
 
     -- D is what the callee ensures, which gives E; Ls is what is said of the function's first parameters, of which m more follow, and F and G of the callee's last
     -- parameter
-    pub comes-with : (Ts Ls : List Fml) (m : ℕ) (t F G : Fml) (D E : SProp 𝓤) → ent 𝓤 D E
+    pub comes_with : (Ts Ls : List Fml) (m : ℕ) (t F G : Fml) (D E : SProp 𝓤) → ent 𝓤 D E
         → ent 𝓤 (⋆ 𝓛 (raw D ∷ ‵ (all_of (Ts ++ t ∷ [])) ∷ ‵ (all_of (Ls ++ fsep F G ∷ [])) ∷ []))
         (sep 𝓤 (sep 𝓤 (sem 𝓛 t) (sem 𝓛 F)) (sep 𝓤 (sem 𝓛 (all_of Ts)) (sep 𝓤 (sem 𝓛 (all_of (Ls ++ trues m))) E)))
-    comes-with Ts Ls m t F G D E gives =
+    comes_with Ts Ls m t F G D E gives =
         qed 𝓛 (raw D ∷ ‵ (all_of (Ts ++ t ∷ [])) ∷ ‵ (all_of (Ls ++ fsep F G ∷ [])) ∷ []) ∵ use1 𝓛 (raw E) gives $ move ! (1 ∷ []) $
-        use1 𝓛 (‵ (all_of Ts) ⊛ ‵ t) (off-end Ts t) $ split ! $ move ! (3 ∷ []) $ use1 𝓛 (‵ (all_of Ls) ⊛ ‵ (fsep F G)) (off-end Ls (fsep F G)) $ split ! $
+        use1 𝓛 (‵ (all_of Ts) ⊛ ‵ t) (off_end Ts t) $ split ! $ move ! (3 ∷ []) $ use1 𝓛 (‵ (all_of Ls) ⊛ ‵ (fsep F G)) (off_end Ls (fsep F G)) $ split ! $
         move ! (1 ∷ []) $ fsplit ! $
         -- [F; G; Ls; Ts; t; E]
-        move ! (4 ∷ 0 ∷ []) $ join ! $ frame ! $ drop ! $ move ! (1 ∷ 0 ∷ []) $ frame ! $ use1 𝓛 (‵ (all_of (Ls ++ trues m))) (with-trues Ls m) $ done !
+        move ! (4 ∷ 0 ∷ []) $ join ! $ frame ! $ drop ! $ move ! (1 ∷ 0 ∷ []) $ frame ! $ use1 𝓛 (‵ (all_of (Ls ++ trues m))) (with_trues Ls m) $ done !

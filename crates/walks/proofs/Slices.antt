@@ -39,9 +39,9 @@ module _ {M : Type 1} {𝓤 : Ura M} {𝓛 : Logic 𝓤} {K : Type 0} {Γ : List
   -- field k of the struct at entry n is part of it
   open 𝓛 use {H}
 
-  reads-member : K → (n k : ℕ) {s : Share} {ν : Sym} {τs : Tys} {vs : Vals} {τ : Ty} {b o d : ℕ}
+  reads_member : K → (n k : ℕ) {s : Share} {ν : Sym} {τs : Tys} {vs : Vals} {τ : Ty} {b o d : ℕ}
       → nth 𝓛 n Γ ≡ ‵ (fat s (ty_struct ν τs) b o (vstruct vs)) → field_at zero τs k ≡ some (τ, d) → Reads K 𝓛 Γ τ b (o + d) (get_v vs k)
-  reads-member t n k {s} {ν} {τs} {vs} {τ} {b} {o} {d} e in_struct =
+  reads_member t n k {s} {ν} {τs} {vs} {τ} {b} {o} {d} e in_struct =
       look_in t n (subst (λ (z : Item 𝓤). Part K 𝓛 z s τ b (o + d) (get_v vs k) (λ u. ‵ (fat s (ty_struct ν τs) b o (vstruct (set_v vs k u))))) (sym e)
       (sub t k in_struct (whole t)))
 
@@ -51,13 +51,13 @@ module _ {M : Type 1} {𝓤 : Ura M} {𝓛 : Logic 𝓤} {K : Type 0} {Γ : List
         → nth 𝓛 n Γ ≡ ‵ (fat s (ty_struct ν τs) (spot_of 𝓤 H E i).1 (spot_of 𝓤 H E i).2 (vstruct vs)) → field_at zero τs k ≡ some (τ, d)
         → field_of (spot_of 𝓤 H E i).0 k ≡ some (τ, d)
         → Opd K 𝓛 Γ E (copy (place i (field k ∷ []))) (get_v vs k)
-    member t n k e in_struct in_place = load t (from t (fld t in_place (stop t))) (reads-member t n k e in_struct)
+    member t n k e in_struct in_place = load t (from t (fld t in_place (stop t))) (reads_member t n k e in_struct)
 
 module _ {M : Type 1} {𝓤 : Ura M} {𝓛 : Logic 𝓤} {K : Type 0} {Γ : List (Item 𝓤)} {E : Env 𝓤 𝓛.H} where
   -- the slice at entry n is lent on
   open 𝓛 use {H}
 
-  pub lends-on : K → {C : Calls 𝓤 H} {Λ : Loops 𝓤 H} {q : Post 𝓤 H} {rest : Body} (n k j : ℕ) {i x y : ℕ} {s : Share} {τ ρ : Ty} {b o m c d : ℕ}
+  pub lends_on : K → {C : Calls 𝓤 H} {Λ : Loops 𝓤 H} {q : Post 𝓤 H} {rest : Body} (n k j : ℕ) {i x y : ℕ} {s : Share} {τ ρ : Ty} {b o m c d : ℕ}
       → nth 𝓛 n Γ ≡ ‵ (fat s (slice_ty ρ) (spot_of 𝓤 H E i).1 (spot_of 𝓤 H E i).2 (slice_val (b, o) m))
       → field_at zero (tcons ρ (tcons (ty_int w64) tnil)) 0 ≡ some (ρ, c) → field_of (spot_of 𝓤 H E i).0 0 ≡ some (ρ, c)
       → field_at zero (tcons ρ (tcons (ty_int w64) tnil)) 1 ≡ some (ty_int w64, d) → field_of (spot_of 𝓤 H E i).0 1 ≡ some (ty_int w64, d)
@@ -67,6 +67,6 @@ module _ {M : Type 1} {𝓤 : Ura M} {𝓛 : Logic 𝓤} {K : Type 0} {Γ : List
       → Step K 𝓛 (put 𝓛 j (Entry 𝓤 H E y (slice_val (b, o) m)) (put 𝓛 k (Entry 𝓤 H E x (vptr b o)) Γ)) (runs C Λ E rest q)
       Γ (runs C Λ E (seq (assign (place x []) (addr_of (place i (field 0 ∷ deref τ ∷ []))))
       (seq (assign (place y []) (aggregate (copy (place x []) ∷ copy (place i (field 1 ∷ [])) ∷ []))) rest)) q)
-  lends-on t n k j e at-0 in-0 at_1 in-1 room typed kept pointed room' typed' = step (λ z.
-      assigns t (addr t (from t (fld t in-0 (hop t (reads-member t n 0 e at-0) (stop t))))) (from t (stop t)) (init t k room typed) $
+  lends_on t n k j e at-0 in-0 at_1 in-1 room typed kept pointed room' typed' = step (λ z.
+      assigns t (addr t (from t (fld t in-0 (hop t (reads_member t n 0 e at-0) (stop t))))) (from t (stop t)) (init t k room typed) $
       assigns t (agg t (and_then t (at t k pointed) (and_then t (member t n 1 (kept ∙ e) at_1 in-1) (no_more t)))) (from t (stop t)) (init t j room' typed') $ z)

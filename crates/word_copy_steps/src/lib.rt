@@ -4,8 +4,8 @@
 ghost use Rattle.std.specs.Prelude.{◌≡◌, ℕ, ◌+◌, ◌*◌, ◌≤◌, ◌<◌, ◌^◌, length};
 ghost use Rattle.lists.specs.Lists.{over};
 ghost use Rattle.endian_rules.specs.declared.Order.TheVariants.{Big};
-ghost use Rattle.refusal_rules.specs.Answers.{gives, sizeSays};
-ghost use Rattle.copy_rules.specs.Runs.{wordsAt, linesAt, copied};
+ghost use Rattle.refusal_rules.specs.Answers.{gives, size_says};
+ghost use Rattle.copy_rules.specs.Runs.{words_at, lines_at, copied};
 
 use copy_rules::WordLines;
 use endian_rules::Order;
@@ -15,7 +15,7 @@ use refusal_rules::{Refusal, SHORT_OUTPUT, SizeAnswer};
 // Fills an output with signed words, one a turn.
 fn words_singly(order: Order, file: &[u8], at: usize, step: usize, out: &mut [i32])
     requires { (i : ℕ) → i < length out.old → at + i * step + 4 ≤ length file.now }
-    ensures { out.new ≡ wordsAt order file.now at step (length out.old) }
+    ensures { out.new ≡ words_at order file.now at step (length out.old) }
 {
     let n = out.len();
     let mut i = 0;
@@ -29,7 +29,7 @@ fn words_singly(order: Order, file: &[u8], at: usize, step: usize, out: &mut [i3
 // Fills an output of four places with signed words in big order.
 fn four_words(file: &[u8], at: usize, step: usize, out: &mut [i32])
     requires { (length out.old ≡ 4) × (at + 3 * step + 4 ≤ length file.now) }
-    ensures { out.new ≡ wordsAt Big file.now at step 4 }
+    ensures { out.new ≡ words_at Big file.now at step 4 }
 {
     let a = read_signed(Order::Big, file, at);
     let b = read_signed(Order::Big, file, at + step);
@@ -44,7 +44,7 @@ fn four_words(file: &[u8], at: usize, step: usize, out: &mut [i32])
 // Fills an output with signed words in big order, four a turn, and the last ones singly.
 fn words_by_fours(file: &[u8], at: usize, step: usize, out: &mut [i32])
     requires { (i : ℕ) → i < length out.old → at + i * step + 4 ≤ length file.now }
-    ensures { out.new ≡ wordsAt Big file.now at step (length out.old) }
+    ensures { out.new ≡ words_at Big file.now at step (length out.old) }
 {
     let n = out.len();
     let mut i = 0;
@@ -60,7 +60,7 @@ fn words_by_fours(file: &[u8], at: usize, step: usize, out: &mut [i32])
 // must make sure that the words are inside the file.
 pub fn fill_words(order: Order, file: &[u8], at: usize, step: usize, out: &mut [i32])
     requires { (i : ℕ) → i < length out.old → at + i * step + 4 ≤ length file.now }
-    ensures { out.new ≡ wordsAt order file.now at step (length out.old) }
+    ensures { out.new ≡ words_at order file.now at step (length out.old) }
 {
     match order {
         Order::Big => words_by_fours(file, at, step, out),
@@ -71,7 +71,7 @@ pub fn fill_words(order: Order, file: &[u8], at: usize, step: usize, out: &mut [
 // Fills the first places of an output with lines of signed words, line by line.
 fn fill_lines(order: Order, file: &[u8], lines: WordLines, out: &mut [i32])
     requires { (lines.count * lines.words ≤ length out.old) × ((1 ≤ lines.words) × ((k i : ℕ) → k < lines.count → i < lines.words → lines.at + k * lines.across + i * lines.along + 4 ≤ length file.now)) }
-    ensures { out.new ≡ over (linesAt order file.now lines.at lines.across lines.along lines.count lines.words) out.old }
+    ensures { out.new ≡ over (lines_at order file.now lines.at lines.across lines.along lines.count lines.words) out.old }
 {
     let count = lines.count;
     let words = lines.words;
@@ -95,7 +95,7 @@ fn fill_lines(order: Order, file: &[u8], lines: WordLines, out: &mut [i32])
 // that they are inside the file.
 pub fn copy_lines(order: Order, file: &[u8], lines: WordLines, out: &mut [i32]) -> SizeAnswer
     requires { (lines.count * lines.words < 2 ^ 64) × ((1 ≤ lines.words) × ((k i : ℕ) → k < lines.count → i < lines.words → lines.at + k * lines.across + i * lines.along + 4 ≤ length file.now)) }
-    ensures { (sizeSays result, out.new) ≡ copied (gives (linesAt order file.now lines.at lines.across lines.along lines.count lines.words)) out.old }
+    ensures { (size_says result, out.new) ≡ copied (gives (lines_at order file.now lines.at lines.across lines.along lines.count lines.words)) out.old }
 {
     let total = lines.count * lines.words;
     if out.len() < total {

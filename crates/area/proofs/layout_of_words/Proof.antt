@@ -1,7 +1,7 @@
 -- `area::layout_of_words` meets its contract: each field is the entry of its word.
 -- Assumes nothing.
 use Rattle.area_rules.specs.Rules.{word_in}
-use Rattle.area_rules.specs.Opening.{areaLayoutOf}
+use Rattle.area_rules.specs.Opening.{area_layout_of}
 use borrow.Author.Rules.{rules}
 use Rattle.area.proofs.layout_of_words.Statement.{statement}
 use Rattle.area.proofs.layout_of_words.Tie as tie
@@ -76,10 +76,10 @@ element-copy-out-t63 : tie.Need-element-copy-out-t63
 element-copy-out-t63 c = search rules
 
 returns : tie.Need-returns
-unfolding areaLayoutOf word_in
+unfolding area_layout_of word_in
 returns c =
     let lengths = c.before.before.before.before.before.before.before.before.before.before.before.before.before.before.before in
-    rw (lengths.padding-length.ensures, lengths.before.before.before.before.before.second-map.ensures)
+    rw (lengths.padding-length.ensures, lengths.before.before.before.before.before.second_map.ensures)
 
 pub layout-of-words-spec : {M : Type 1} → statement M
 layout-of-words-spec =

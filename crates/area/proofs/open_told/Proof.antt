@@ -1,16 +1,16 @@
 -- `area::open_told` meets its contract: the length and W2 are checked in the order of the table, and a file is opened in the order found.
 -- Assumes nothing.
 use mathlib.Core.Path.{sym, ◌∙◌}
-use Rattle.area_rules.proofs.Directory.{short-file, short-directory, opens-big, opens-little, opens-neither}
+use Rattle.area_rules.proofs.Directory.{short_file, short_directory, opens_big, opens_little, opens_neither}
 use borrow.Author.Rules.{rules}
 use Rattle.area.proofs.open_told.Statement.{statement}
 use Rattle.area.proofs.open_told.Tie as tie
 
 returns : tie.Need-returns
-returns c = sym (short-file _ _ c.if1.true)
+returns c = sym (short_file _ _ c.if1.true)
 
 returns-2 : tie.Need-returns-2
-returns-2 c = sym (short-directory _ _ c.before.if1.false c.if2.true)
+returns-2 c = sym (short_directory _ _ c.before.if1.false c.if2.true)
 
 read-word-requires : tie.Need-read-word-requires
 read-word-requires c κs = search rules
@@ -23,7 +23,7 @@ returns-3 c =
     let big = c.before.before in
     let long = big.before in
     c.open-ordered.ensures
-    ∙ sym (opens-big _ _ long.before.if1.false long.if2.false (sym big.read_word.ensures ∙ c.before.if3.true))
+    ∙ sym (opens_big _ _ long.before.if1.false long.if2.false (sym big.read_word.ensures ∙ c.before.if3.true))
 
 read-word-requires-2 : tie.Need-read-word-requires-2
 read-word-requires-2 c κs = search rules
@@ -38,7 +38,7 @@ returns-4 c =
     let long = big.before.before in
     c.open-ordered2.ensures
     ∙ sym
-    (opens-little _ _ long.before.if1.false long.if2.false
+    (opens_little _ _ long.before.if1.false long.if2.false
     (λ e. big.if3.false (big.before.read_word.ensures ∙ e))
     (sym little.read-word2.ensures ∙ c.before.if4.true))
 
@@ -47,7 +47,7 @@ returns-5 c =
     let big = c.before.before in
     let long = big.before.before in
     sym
-    (opens-neither _ _ long.before.if1.false long.if2.false
+    (opens_neither _ _ long.before.if1.false long.if2.false
     (λ e. big.if3.false (big.before.read_word.ensures ∙ e))
     (λ e. c.if4.false (c.before.read-word2.ensures ∙ e)))
 

@@ -2,7 +2,7 @@
 -- Assumes nothing.
 use mathlib.Core.Path.{sym, ap, ◌∙◌}
 use Rattle.refusal_rules.specs.Answers.{gives}
-use Rattle.area_rules.specs.Opening.{openAreaWords}
+use Rattle.area_rules.specs.Opening.{open_area_words}
 use borrow.Author.Rules.{rules}
 use Rattle.area.proofs.open_words.Statement.{statement}
 use Rattle.area.proofs.open_words.Tie as tie
@@ -20,11 +20,11 @@ layout-of-words-requires : tie.Need-layout-of-words-requires
 layout-of-words-requires c κs = search rules
 
 returns : tie.Need-returns
-unfolding openAreaWords
+unfolding open_area_words
 returns c = rw (sym c.before.before.before.word-verdict.ensures ∙ c.before.refusal.given.1)
 
 returns-2 : tie.Need-returns-2
-unfolding openAreaWords
+unfolding open_area_words
 returns-2 c =
     rw (sym c.before.before.before.word-verdict.ensures ∙ c.before.enum_told.given.1)
     (ap gives c.layout-of-words.ensures)

@@ -8,18 +8,18 @@ use lib.ListN.{length, drop}
 use Rattle.endian_rules.specs.Words.{word_at}
 use Rattle.endian_rules.specs.declared.Order.{Order}
 use Rattle.lists.specs.Lists.{list_of}
-use Rattle.lists.proofs.Built.{length-listOf}
-use Rattle.lists.proofs.Filled.{over-all, over-listOf, filled_more}
-use Rattle.area_rules.specs.Rules.{directoryOf}
+use Rattle.lists.proofs.Built.{length-list_of}
+use Rattle.lists.proofs.Filled.{over_all, over-list_of, filled_more}
+use Rattle.area_rules.specs.Rules.{directory_of}
 use Rattle.area.proofs.read_directory.Statement.{statement}
 use Rattle.area.proofs.read_directory.Tie as tie
 
 -- after the last turn nothing is left of what the array held before
-all_read : (o : Order) (f words : List ℕ) (i : ℕ) → i ≡ 64 → length words ≡ 64 → list_of (word_at o f) i ++ drop i words ≡ directoryOf o f
-unfolding directoryOf
+all_read : (o : Order) (f words : List ℕ) (i : ℕ) → i ≡ 64 → length words ≡ 64 → list_of (word_at o f) i ++ drop i words ≡ directory_of o f
+unfolding directory_of
 all_read o f words i e h =
-    sym (over-listOf (word_at o f) i words)
-    ∙ over-all (list_of (word_at o f) i) words (length-listOf (word_at o f) i ∙ e ∙ sym h)
+    sym (over-list_of (word_at o f) i words)
+    ∙ over_all (list_of (word_at o f) i) words (length-list_of (word_at o f) i ∙ e ∙ sym h)
     ∙ ap (list_of (word_at o f)) e
 
 abbrev invariant-loop : tie.invariant-loop

@@ -1,7 +1,7 @@
 -- `area::same_area` meets its contract: the chain of comparisons is the comparison of the lists.
 -- Assumes nothing.
 use Rattle.refusal_rules.specs.Tests.{same_numbers}
-use Rattle.area_rules.specs.Opening.{sameArea}
+use Rattle.area_rules.specs.Opening.{same_area}
 use borrow.Author.Rules.{rules}
 use Rattle.area.proofs.same_area.Statement.{statement}
 use Rattle.area.proofs.same_area.Tie as tie
@@ -34,7 +34,7 @@ equal-and-requires-5 : tie.Need-equal-and-requires-5
 equal-and-requires-5 c κs = search rules
 
 returns : tie.Need-returns
-unfolding sameArea same_numbers
+unfolding same_area same_numbers
 returns c =
     let lines = c.before.before.before.before.before.before in
     rw (

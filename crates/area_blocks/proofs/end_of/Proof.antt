@@ -1,6 +1,6 @@
 -- `area_blocks::end_of` meets its contract: one step for each of the four starts.
 -- Assumes nothing.
-use Rattle.area_rules.specs.Blocks.{nextStart}
+use Rattle.area_rules.specs.Blocks.{next_start}
 use borrow.Author.Rules.{rules}
 use Rattle.area_blocks.proofs.end_of.Statement.{statement}
 use Rattle.area_blocks.proofs.end_of.Tie as tie
@@ -18,7 +18,7 @@ nearer-start-requires-4 : tie.Need-nearer-start-requires-4
 nearer-start-requires-4 c κs = search rules
 
 returns : tie.Need-returns
-unfolding nextStart
+unfolding next_start
 returns c = rw (c.nearer-start4.ensures, c.before.nearer-start3.ensures, c.before.before.nearer-start2.ensures, c.before.before.before.nearer-start.ensures)
 
 pub end-of-spec : {M : Type 1} → statement M

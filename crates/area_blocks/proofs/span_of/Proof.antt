@@ -1,7 +1,7 @@
 -- `area_blocks::span_of` meets its contract: each arm is a case of the definition.
 -- Assumes nothing.
-use Rattle.refusal_rules.specs.Rules.{judge, first, firstFault}
-use Rattle.area_part_rules.specs.Blocks.{optionalBlockOf, blockRules, block_of}
+use Rattle.refusal_rules.specs.Rules.{judge, first, first_fault}
+use Rattle.area_part_rules.specs.Blocks.{optional_block_of, block_rules, block_of}
 use borrow.Author.Rules.{rules}
 use Rattle.area_blocks.proofs.span_of.Statement.{statement}
 use Rattle.area_blocks.proofs.span_of.Tie as tie
@@ -40,19 +40,19 @@ audit-span-requires : tie.Need-audit-span-requires
 audit-span-requires c κs = search rules
 
 returns : tie.Need-returns
-unfolding block_of blockRules firstFault first judge
+unfolding block_of block_rules first_fault first judge
 returns c = rw c.enum_told.given.1
 
 returns-2 : tie.Need-returns-2
-unfolding block_of blockRules optionalBlockOf
+unfolding block_of block_rules optional_block_of
 returns-2 c = rw c.before.enum-told2.given.1 c.optional-span.ensures
 
 returns-3 : tie.Need-returns-3
-unfolding block_of blockRules optionalBlockOf
+unfolding block_of block_rules optional_block_of
 returns-3 c = rw c.before.enum-told3.given.1 c.optional-span2.ensures
 
 returns-4 : tie.Need-returns-4
-unfolding block_of blockRules optionalBlockOf
+unfolding block_of block_rules optional_block_of
 returns-4 c = rw c.before.enum-told4.given.1 c.optional-span3.ensures
 
 returns-5 : tie.Need-returns-5

@@ -2,7 +2,7 @@
 -- Assumes nothing.
 use native.Mathlib.Omega.{arith}
 use Rattle.area_rules.specs.Rules.{word_in}
-use Rattle.area_rules.proofs.Counts.{AreaCounted, counted, line-most}
+use Rattle.area_rules.proofs.Counts.{AreaCounted, counted, line_most}
 use borrow.Author.Rules.{rules}
 use Rattle.area_directory.proofs.audit_end_of.Statement.{statement}
 use Rattle.area_directory.proofs.audit_end_of.Tie as tie
@@ -24,7 +24,7 @@ unfolding word_in
 end-of-audit-requires c κs =
     let s = c.before.before.before.before in
     let k : AreaCounted _ = counted _ s.requires.0 in
-    omega (arith, k, c.before.line-length-of.ensures, line-most _ s.requires.0 s.requires.1)
+    omega (arith, k, c.before.line-length-of.ensures, line_most _ s.requires.0 s.requires.1)
 
 returns : tie.Need-returns
 unfolding word_in

@@ -1,8 +1,8 @@
 -- `area_directory::count_verdict` meets its contract: the chain of checks is the table of rules.
 -- Assumes nothing.
 use Rattle.refusal_rules.specs.Rules.{chained}
-use Rattle.refusal_rules.proofs.Tables.{by-table}
-use Rattle.area_rules.specs.Rules.{word_in, areaCountRules}
+use Rattle.refusal_rules.proofs.Tables.{by_table}
+use Rattle.area_rules.specs.Rules.{word_in, area_count_rules}
 use borrow.Author.Rules.{rules}
 use Rattle.area_directory.proofs.count_verdict.Statement.{statement}
 use Rattle.area_directory.proofs.count_verdict.Tie as tie
@@ -41,10 +41,10 @@ count-requires-8 : tie.Need-count-requires-8
 count-requires-8 c κs = search rules
 
 returns : tie.Need-returns
-unfolding word_in areaCountRules chained
+unfolding word_in area_count_rules chained
 returns c =
     let width = c.before.before.before.before.before.before in
-    by-table
+    by_table
     _
     (rw (
       c.count8.ensures,

@@ -2,7 +2,7 @@
 -- Assumes nothing.
 use native.Mathlib.Omega.{arith}
 use Rattle.area_rules.specs.Rules.{word_in}
-use Rattle.area_rules.proofs.Counts.{width-bounds, AreaCounted, counted}
+use Rattle.area_rules.proofs.Counts.{width_bounds, AreaCounted, counted}
 use borrow.Author.Rules.{rules}
 use Rattle.area_directory.proofs.line_length_of.Statement.{statement}
 use Rattle.area_directory.proofs.line_length_of.Tie as tie
@@ -23,7 +23,7 @@ line-bytes-requires : tie.Need-line-bytes-requires
 unfolding word_in
 line-bytes-requires c κs =
     let k : AreaCounted _ = counted _ c.before.before.before.before.requires in
-    omega (arith, width-bounds _ k.w11)
+    omega (arith, width_bounds _ k.w11)
 
 returns : tie.Need-returns
 unfolding word_in

@@ -1,8 +1,8 @@
 -- `area_directory::place_verdict` meets its contract: the chain of checks is the table of rules.
 -- Assumes nothing.
 use Rattle.refusal_rules.specs.Rules.{chained}
-use Rattle.refusal_rules.proofs.Tables.{by-table}
-use Rattle.area_rules.specs.Rules.{word_in, areaPlaceRules}
+use Rattle.refusal_rules.proofs.Tables.{by_table}
+use Rattle.area_rules.specs.Rules.{word_in, area_place_rules}
 use borrow.Author.Rules.{rules}
 use Rattle.area_directory.proofs.place_verdict.Statement.{statement}
 use Rattle.area_directory.proofs.place_verdict.Tie as tie
@@ -62,12 +62,12 @@ check-requires-4 : tie.Need-check-requires-4
 check-requires-4 c κs = search rules
 
 returns : tie.Need-returns
-unfolding word_in areaPlaceRules chained
+unfolding word_in area_place_rules chained
 returns c =
     let cal = c.before.before.before.before in
     let nav = cal.before.before.before in
     let start = nav.before.before.before in
-    by-table
+    by_table
     _
     (rw (
       c.check4.ensures,
@@ -82,7 +82,7 @@ returns c =
       nav.before.before.at-least2.ensures,
       start.check.ensures,
       start.before.and.ensures,
-      start.before.before.at-least.ensures,
+      start.before.before.at_least_lem.ensures,
       start.before.before.before.before.before.before.before.audit-end-of.ensures,
     ))
 

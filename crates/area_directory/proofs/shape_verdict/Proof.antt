@@ -1,8 +1,8 @@
 -- `area_directory::shape_verdict` meets its contract: the chain of checks is the table of rules.
 -- Assumes nothing.
 use Rattle.refusal_rules.specs.Rules.{chained}
-use Rattle.refusal_rules.proofs.Tables.{by-table}
-use Rattle.area_rules.specs.Rules.{word_in, areaShapeRules}
+use Rattle.refusal_rules.proofs.Tables.{by_table}
+use Rattle.area_rules.specs.Rules.{word_in, area_shape_rules}
 use borrow.Author.Rules.{rules}
 use Rattle.area_directory.proofs.shape_verdict.Statement.{statement}
 use Rattle.area_directory.proofs.shape_verdict.Tie as tie
@@ -47,10 +47,10 @@ check-requires-3 : tie.Need-check-requires-3
 check-requires-3 c κs = search rules
 
 returns : tie.Need-returns
-unfolding word_in areaShapeRules chained
+unfolding word_in area_shape_rules chained
 returns c =
     let line = c.before.before.before.before in
-    by-table
+    by_table
     _
     (rw (
       c.check3.ensures,

@@ -17,10 +17,10 @@ slot-of-requires : tie.Need-slot-of-requires
 slot-of-requires c κs = search rules
 
 returns : tie.Need-returns
-returns c = rw (← c.before.before.before.area_of.ensures, c.before.refusal.given.1)
+returns c = rw (← c.before.before.before.area_of_lem.ensures, c.before.refusal.given.1)
 
 returns-2 : tie.Need-returns-2
-returns-2 c = rw (← c.before.before.before.before.area_of.ensures, c.before.before.l.given.1) c.slot_of.ensures
+returns-2 c = rw (← c.before.before.before.before.area_of_lem.ensures, c.before.before.l.given.1) c.slot_of_lem.ensures
 
 pub band-slot-spec : {M : Type 1} → statement M
 band-slot-spec =

@@ -3,10 +3,10 @@
 use mathlib.Core.Path.{sym, ap, ◌∙◌}
 use native.Mathlib.Nat.{mul-le-mul}
 use native.Mathlib.Omega.{arith}
-use Rattle.refusal_rules.specs.Answers.{mapped, placeSays}
+use Rattle.refusal_rules.specs.Answers.{mapped, place_says}
 use Rattle.area_rules.proofs.Samples.{width-to}
 use Rattle.copy_rules.specs.Runs.{copied}
-use Rattle.area_part_rules.proofs.Lines.{lineFrom, line-from, line-samples-inside}
+use Rattle.area_part_rules.proofs.Lines.{line_from, line-from, line_samples_inside}
 use borrow.Author.Rules.{rules}
 use Rattle.area_lines.proofs.copy_line_in.Statement.{statement}
 use Rattle.area_lines.proofs.copy_line_in.Tie as tie
@@ -29,7 +29,7 @@ cast-t13 c = search rules
 mul-t14 : tie.Need-overflow-mul-t14
 mul-t14 c =
     let s = c.before.before.before.before.before.before.before.before in
-    omega (arith, mul-le-mul s.requires.fits.bands-to (width-to s.args.l s.requires.fits))
+    omega (arith, mul-le-mul s.requires.fits.bands_to (width-to s.args.l s.requires.fits))
 
 cast-t15 : tie.Need-overflow-cast-t15
 cast-t15 c = search rules
@@ -37,17 +37,17 @@ cast-t15 c = search rules
 copy-numbers-requires : tie.Need-copy-numbers-requires
 copy-numbers-requires c κs =
     let s = c.before.before.before.before.before.before.before.before.before.before in
-    line-samples-inside s.args.file.now s.args.l s.requires _ _ _
-    (sym c.before.before.before.before.before.before.before.sample-place.ensures
-    ∙ ap placeSays c.before.before.before.before.before.place.given.1)
+    line_samples_inside s.args.file.now s.args.l s.requires _ _ _
+    (sym c.before.before.before.before.before.before.before.sample_place_lem.ensures
+    ∙ ap place_says c.before.before.before.before.before.place.given.1)
 
 returns : tie.Need-returns
 returns c =
     let s = c.before.before.before.before.before.before in
     let a = s.args in
     ap (λ x. copied x a.out.now)
-    (ap (λ x. mapped (lineFrom a.file.now a.l) (placeSays x)) (sym c.before.refusal.given.1)
-    ∙ ap (mapped (lineFrom a.file.now a.l)) c.before.before.before.sample-place.ensures
+    (ap (λ x. mapped (line_from a.file.now a.l) (place_says x)) (sym c.before.refusal.given.1)
+    ∙ ap (mapped (line_from a.file.now a.l)) c.before.before.before.sample_place_lem.ensures
     ∙ line-from a.file.now a.l s.requires.fits a.line a.which)
 
 same_length : tie.Need-same-length
@@ -59,8 +59,8 @@ returns-2 c =
     let a = s.args in
     c.before.before.copy-numbers.ensures
     ∙ ap (λ x. copied x a.out.now)
-    (ap (λ x. mapped (lineFrom a.file.now a.l) (placeSays x)) (sym c.before.before.before.before.before.before.before.before.place.given.1)
-    ∙ ap (mapped (lineFrom a.file.now a.l)) c.before.before.before.before.before.before.before.before.before.before.sample-place.ensures
+    (ap (λ x. mapped (line_from a.file.now a.l) (place_says x)) (sym c.before.before.before.before.before.before.before.before.place.given.1)
+    ∙ ap (mapped (line_from a.file.now a.l)) c.before.before.before.before.before.before.before.before.before.before.sample_place_lem.ensures
     ∙ line-from a.file.now a.l s.requires.fits a.line a.which)
 
 pub copy-line-in-spec : {M : Type 1} → statement M

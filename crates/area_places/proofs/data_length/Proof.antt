@@ -4,17 +4,17 @@ use mathlib.Core.Path.{◌≡◌, sym, ap, ◌∙◌}
 use Prim.Native.Nat.{ℕ, ◌*◌}
 use native.Mathlib.Nat.{le_refl}
 use native.Mathlib.Omega.{arith}
-use Rattle.refusal_rules.specs.Answers.{gives, mapped, sizeSays}
-use Rattle.area_rules.specs.Places.{lengthOfLine, lengthOfData}
-use Rattle.area_rules.proofs.Places.{line-length-exactly}
-use Rattle.area_rules.proofs.Sizes.{lines-most}
+use Rattle.refusal_rules.specs.Answers.{gives, mapped, size_says}
+use Rattle.area_rules.specs.Places.{length_of_line, length_of_data}
+use Rattle.area_rules.proofs.Places.{line_length_exactly}
+use Rattle.area_rules.proofs.Sizes.{lines_most}
 use borrow.Author.Rules.{rules}
 use Rattle.area_places.proofs.data_length.Statement.{statement}
 use Rattle.area_places.proofs.data_length.Tie as tie
 
 -- the length of a line that was found
-line-is : (c : tie.After-line) → lengthOfLine c.before.before.before.args.layout ≡ gives c.line.given.0.0
-line-is c = sym c.before.before.line-length.ensures ∙ ap sizeSays c.line.given.1
+line_is : (c : tie.After-line) → length_of_line c.before.before.before.args.layout ≡ gives c.line.given.0.0
+line_is c = sym c.before.before.line_length_lem.ensures ∙ ap size_says c.line.given.1
 
 line-length-requires : tie.Need-line-length-requires
 line-length-requires c κs = search rules
@@ -31,20 +31,20 @@ cast-length c = search rules
 mul-length : tie.Need-overflow-mul-length
 mul-length c =
     let l = c.before.before.before.before.before.args.layout in
-    let (bounds, same) = (line-length-exactly l _).0 (line-is c.before.before) in
-    omega (arith, ap (λ (n : ℕ). l.lines * n) same, lines-most bounds l.lines (le_refl l.lines) (omega arith))
+    let (bounds, same) = (line_length_exactly l _).0 (line_is c.before.before) in
+    omega (arith, ap (λ (n : ℕ). l.lines * n) same, lines_most bounds l.lines (le_refl l.lines) (omega arith))
 
 returns : tie.Need-returns
-unfolding lengthOfData
+unfolding length_of_data
 returns c =
     let l = c.before.before.before.before.args.layout in
-    ap (mapped (λ (n : ℕ). l.lines * n)) (ap sizeSays (sym c.before.refusal.given.1) ∙ c.before.before.before.line-length.ensures)
+    ap (mapped (λ (n : ℕ). l.lines * n)) (ap size_says (sym c.before.refusal.given.1) ∙ c.before.before.before.line_length_lem.ensures)
 
 returns-2 : tie.Need-returns-2
-unfolding lengthOfData
+unfolding length_of_data
 returns-2 c =
     let l = c.before.before.before.before.before.args.layout in
-    ap (mapped (λ (n : ℕ). l.lines * n)) (sym (line-is c.before.before))
+    ap (mapped (λ (n : ℕ). l.lines * n)) (sym (line_is c.before.before))
 
 pub data-length-spec : {M : Type 1} → statement M
 data-length-spec =

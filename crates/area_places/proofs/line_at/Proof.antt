@@ -3,7 +3,7 @@
 use mathlib.Core.Path.{ap}
 use Prim.Native.Nat.{ℕ, ◌+◌, ◌*◌}
 use native.Mathlib.Omega.{arith}
-use Rattle.area_rules.proofs.Sizes.{lines-most}
+use Rattle.area_rules.proofs.Sizes.{lines_most}
 use borrow.Author.Rules.{rules}
 use Rattle.area_places.proofs.line_at.Statement.{statement}
 use Rattle.area_places.proofs.line_at.Tie as tie
@@ -17,12 +17,12 @@ line-length-in-requires c κs = search rules
 mul-result : tie.Need-overflow-mul-result
 mul-result c =
     let s = c.before.before in
-    omega (arith, ap (λ (n : ℕ). s.args.line * n) c.line-length-in.ensures, lines-most s.requires.0 s.args.line s.requires.1 (omega arith))
+    omega (arith, ap (λ (n : ℕ). s.args.line * n) c.line-length-in.ensures, lines_most s.requires.0 s.args.line s.requires.1 (omega arith))
 
 add-result : tie.Need-overflow-add-result
 add-result c =
     let s = c.before.before in
-    omega (arith, ap (λ (n : ℕ). s.args.line * n) c.line-length-in.ensures, lines-most s.requires.0 s.args.line s.requires.1 (omega arith))
+    omega (arith, ap (λ (n : ℕ). s.args.line * n) c.line-length-in.ensures, lines_most s.requires.0 s.args.line s.requires.1 (omega arith))
 
 returns : tie.Need-returns
 returns c =

@@ -3,18 +3,18 @@
 use mathlib.Core.Path.{◌≡◌, sym, ap, ◌∙◌}
 use mathlib.Core.List.{[], ◌∷◌}
 use Rattle.refusal_rules.specs.Answers.{gives}
-use Rattle.refusal_rules.specs.Rules.{rule, firstFault, chained}
-use Rattle.refusal_rules.proofs.Tables.{by-table, pass-hold}
-use Rattle.area_rules.specs.Bounds.{areaBounded}
-use Rattle.area_rules.specs.Places.{lengthOfLine}
-use Rattle.area_rules.proofs.Bounds.{area-bounds}
+use Rattle.refusal_rules.specs.Rules.{rule, first_fault, chained}
+use Rattle.refusal_rules.proofs.Tables.{by_table, pass_hold}
+use Rattle.area_rules.specs.Bounds.{area_bounded}
+use Rattle.area_rules.specs.Places.{length_of_line}
+use Rattle.area_rules.proofs.Bounds.{area_bounds}
 use borrow.Author.Rules.{rules}
 use Rattle.area_places.proofs.line_length.Statement.{statement}
 use Rattle.area_places.proofs.line_length.Tie as tie
 
-verdict : (c : tie.After-check) → let a = c.before.before.args in c.check.result ≡ firstFault (rule (areaBounded a.layout) 7 0 ∷ [])
+verdict : (c : tie.After-check) → let a = c.before.before.args in c.check.result ≡ first_fault (rule (area_bounded a.layout) 7 0 ∷ [])
 unfolding chained
-verdict c = by-table _ (rw (c.check.ensures, c.before.area-bounded.ensures))
+verdict c = by_table _ (rw (c.check.ensures, c.before.area_bounded_lem.ensures))
 
 area-bounded-requires : tie.Need-area-bounded-requires
 area-bounded-requires c κs = search rules
@@ -29,14 +29,14 @@ enum_told : tie.Need-enum-told
 enum_told c = search rules
 
 line-length-in-requires : tie.Need-line-length-in-requires
-line-length-in-requires c κs = (area-bounds _).sound (pass-hold _ (sym (verdict c.before.before) ∙ c.enum_told.given.1)).0
+line-length-in-requires c κs = (area_bounds _).sound (pass_hold _ (sym (verdict c.before.before) ∙ c.enum_told.given.1)).0
 
 returns : tie.Need-returns
-unfolding lengthOfLine
+unfolding length_of_line
 returns c = rw (sym (verdict c.before.before.before) ∙ c.before.refusal.given.1)
 
 returns-2 : tie.Need-returns-2
-unfolding lengthOfLine
+unfolding length_of_line
 returns-2 c = rw (sym (verdict c.before.before.before) ∙ c.before.enum_told.given.1) (ap gives c.line-length-in.ensures)
 
 pub line-length-spec : {M : Type 1} → statement M

@@ -2,8 +2,8 @@
 -- Assumes nothing.
 use mathlib.Core.Path.{◌≡◌}
 use native.Mathlib.Omega.{arith}
-use Rattle.area_rules.specs.Samples.{lineStart}
-use Rattle.area_rules.proofs.Sizes.{lines-most, before-most, bytes_most}
+use Rattle.area_rules.specs.Samples.{line_start}
+use Rattle.area_rules.proofs.Sizes.{lines_most, before_most, bytes_most}
 use borrow.Author.Rules.{rules}
 use Rattle.area_places.proofs.sample_address.Statement.{statement}
 use Rattle.area_places.proofs.sample_address.Tie as tie
@@ -12,10 +12,10 @@ cast-before : tie.Need-overflow-cast-before
 cast-before c = search rules
 
 mul-before : tie.Need-overflow-mul-before
-mul-before c = omega (arith, before-most c.before.requires.0 c.before.args.element c.before.requires.1.1.0)
+mul-before c = omega (arith, before_most c.before.requires.0 c.before.args.element c.before.requires.1.1.0)
 
 add-before : tie.Need-overflow-add-before
-add-before c = omega (arith, before-most c.before.requires.0 c.before.args.element c.before.requires.1.1.0)
+add-before c = omega (arith, before_most c.before.requires.0 c.before.args.element c.before.requires.1.1.0)
 
 line-at-requires : tie.Need-line-at-requires
 line-at-requires c κs = search rules
@@ -26,8 +26,8 @@ cast-result c = search rules
 add-result : tie.Need-overflow-add-result
 add-result c =
     let s = c.before.before.before in
-    let line : c.before.line_at_lem.result ≡ lineStart s.args.layout s.args.line = c.before.line_at_lem.ensures in
-    omega (arith, c.struct-known2.given, line, lines-most s.requires.0 s.args.line s.requires.1.0 (omega arith))
+    let line : c.before.line_at_lem.result ≡ line_start s.args.layout s.args.line = c.before.line_at_lem.ensures in
+    omega (arith, c.struct-known2.given, line, lines_most s.requires.0 s.args.line s.requires.1.0 (omega arith))
 
 cast-result-2 : tie.Need-overflow-cast-result-2
 cast-result-2 c = search rules
@@ -40,12 +40,12 @@ mul-result c =
 add-result-2 : tie.Need-overflow-add-result-2
 add-result-2 c =
     let s = c.before.before.before.before in
-    let line : c.before.before.line_at_lem.result ≡ lineStart s.args.layout s.args.line = c.before.before.line_at_lem.ensures in
+    let line : c.before.before.line_at_lem.result ≡ line_start s.args.layout s.args.line = c.before.before.line_at_lem.ensures in
     omega (
       arith,
       c.struct-known3.given,
       line,
-      lines-most s.requires.0 s.args.line s.requires.1.0 (omega arith),
+      lines_most s.requires.0 s.args.line s.requires.1.0 (omega arith),
       bytes_most s.requires.0 s.args.element s.args.slot s.requires.1.1.0 s.requires.1.1.1,
     )
 

@@ -3,11 +3,11 @@
 use mathlib.Core.Path.{sym, ap, ◌∙◌}
 use Prim.Native.Nat.{ℕ}
 use native.Mathlib.Omega.{arith}
-use Rattle.refusal_rules.specs.Answers.{gives, numberSays, place}
-use Rattle.refusal_rules.proofs.Tables.{pass-hold}
-use Rattle.area_rules.proofs.Bands.{named-slot-inside}
-use Rattle.area_rules.specs.Places.{samplePlace}
-use Rattle.area_rules.proofs.Tables.{samples-hold}
+use Rattle.refusal_rules.specs.Answers.{gives, number_says, place}
+use Rattle.refusal_rules.proofs.Tables.{pass_hold}
+use Rattle.area_rules.proofs.Bands.{named_slot-inside}
+use Rattle.area_rules.specs.Places.{sample_place}
+use Rattle.area_rules.proofs.Tables.{samples_hold}
 use borrow.Author.Rules.{rules}
 use Rattle.area_places.proofs.sample_place.Statement.{statement}
 use Rattle.area_places.proofs.sample_place.Tie as tie
@@ -33,27 +33,27 @@ enum_told c = search rules
 sample-address-requires : tie.Need-sample-address-requires
 sample-address-requires c κs =
     let s = c.before.before.before.before.before.before.before in
-    let (bounds, (line, element)) = (samples-hold _ _ _).0 (pass-hold _ (sym c.before.before.sample-verdict.ensures ∙ c.enum_told.given.1)) in
-    let slot = named-slot-inside s.args.layout s.args.which _ (sym c.before.before.before.before.before.before.slot_of.ensures ∙ ap numberSays c.before.before.before.before.slot.given.1) in
+    let (bounds, (line, element)) = (samples_hold _ _ _).0 (pass_hold _ (sym c.before.before.sample-verdict.ensures ∙ c.enum_told.given.1)) in
+    let slot = named_slot-inside s.args.layout s.args.which _ (sym c.before.before.before.before.before.before.slot_of_lem.ensures ∙ ap number_says c.before.before.before.before.slot.given.1) in
     (bounds, (omega arith, (omega arith, omega arith)))
 
 cast-t13 : tie.Need-overflow-cast-t13
 cast-t13 c = search rules
 
 returns : tie.Need-returns
-unfolding samplePlace
-returns c = rw (← c.before.before.before.slot_of.ensures, c.before.refusal.given.1)
+unfolding sample_place
+returns c = rw (← c.before.before.before.slot_of_lem.ensures, c.before.refusal.given.1)
 
 returns-2 : tie.Need-returns-2
-unfolding samplePlace
+unfolding sample_place
 returns-2 c =
-    rw (← c.before.before.before.before.before.before.before.slot_of.ensures, c.before.before.before.before.before.slot.given.1, sym c.before.before.before.sample-verdict.ensures ∙ c.before.refusal2.given.1)
+    rw (← c.before.before.before.before.before.before.before.slot_of_lem.ensures, c.before.before.before.before.before.slot.given.1, sym c.before.before.before.sample-verdict.ensures ∙ c.before.refusal2.given.1)
 
 returns-3 : tie.Need-returns-3
-unfolding samplePlace
+unfolding sample_place
 returns-3 c =
     let l = c.before.before.before.before.before.before.before.before.before.args.layout in
-    rw (← c.before.before.before.before.before.before.before.before.slot_of.ensures, c.before.before.before.before.before.before.slot.given.1, sym c.before.before.before.before.sample-verdict.ensures ∙ c.before.before.enum_told.given.1)
+    rw (← c.before.before.before.before.before.before.before.before.slot_of_lem.ensures, c.before.before.before.before.before.before.slot.given.1, sym c.before.before.before.before.sample-verdict.ensures ∙ c.before.before.enum_told.given.1)
     (ap (λ (a : ℕ). gives (place a l.width)) c.before.sample-address.ensures)
 
 pub sample-place-spec : {M : Type 1} → statement M

@@ -1,8 +1,8 @@
 -- `area_places::sample_verdict` meets its contract: the chain of checks is the table of rules.
 -- Assumes nothing.
 use Rattle.refusal_rules.specs.Rules.{chained}
-use Rattle.refusal_rules.proofs.Tables.{by-table}
-use Rattle.area_rules.specs.Places.{sampleRules}
+use Rattle.refusal_rules.proofs.Tables.{by_table}
+use Rattle.area_rules.specs.Places.{sample_rules}
 use borrow.Author.Rules.{rules}
 use Rattle.area_places.proofs.sample_verdict.Statement.{statement}
 use Rattle.area_places.proofs.sample_verdict.Tie as tie
@@ -20,14 +20,14 @@ check-requires-3 : tie.Need-check-requires-3
 check-requires-3 c κs = search rules
 
 returns : tie.Need-returns
-unfolding sampleRules chained
+unfolding sample_rules chained
 returns c =
-    by-table _
+    by_table _
     (rw (
       c.check3.ensures,
       c.before.before.check2.ensures,
       c.before.before.before.before.check.ensures,
-      c.before.before.before.before.before.area-bounded.ensures,
+      c.before.before.before.before.before.area_bounded_lem.ensures,
     ))
 
 pub sample-verdict-spec : {M : Type 1} → statement M

@@ -1,7 +1,7 @@
 -- `area_prefixes::region_in_prefix` meets its contract: the lengths of the regions add up to the prefix, so no sum of them is above a word.
 -- Assumes nothing.
 use native.Mathlib.Omega.{arith}
-use Rattle.area_rules.proofs.Regions.{regions-total}
+use Rattle.area_rules.proofs.Regions.{regions_total}
 use borrow.Author.Rules.{rules}
 use Rattle.area_prefixes.proofs.region_in_prefix.Statement.{statement}
 use Rattle.area_prefixes.proofs.region_in_prefix.Tie as tie
@@ -15,7 +15,7 @@ region-index-requires c κs = search rules
 offset-of-requires : tie.Need-offset-of-requires
 offset-of-requires c κs =
     let s = c.before.before.before in
-    (c.before.region-index.ensures.1, rw c.before.before.region-lengths.ensures (omega (arith, regions-total s.args.l s.requires, s.well-formed.0)))
+    (c.before.region-index.ensures.1, rw c.before.before.region-lengths.ensures (omega (arith, regions_total s.args.l s.requires, s.well-formed.0)))
 
 mul-t8 : tie.Need-overflow-mul-t8
 mul-t8 c = search rules

@@ -1,8 +1,8 @@
 -- `area_prefixes::region_span` meets its contract: the layout that is found has the span, and a refusal is passed on.
 -- Assumes nothing.
 use mathlib.Core.Path.{sym, ap, ◌∙◌}
-use Rattle.area_rules.specs.Opening.{areaSays}
-use Rattle.layout_rules.proofs.OneKind.{area-known}
+use Rattle.area_rules.specs.Opening.{area_says}
+use Rattle.layout_rules.proofs.OneKind.{area_known}
 use borrow.Author.Rules.{rules}
 use Rattle.area_prefixes.proofs.region_span.Statement.{statement}
 use Rattle.area_prefixes.proofs.region_span.Tie as tie
@@ -17,13 +17,13 @@ enum-known-l : tie.Need-enum-known-l
 enum-known-l c = search rules
 
 region-of-requires : tie.Need-region-of-requires
-region-of-requires c κs = (area-known _ _ _ (sym c.before.before.before.area_of.ensures ∙ ap areaSays c.before.l.given.1)).fits
+region-of-requires c κs = (area_known _ _ _ (sym c.before.before.before.area_of_lem.ensures ∙ ap area_says c.before.l.given.1)).fits
 
 returns : tie.Need-returns
-returns c = rw (← c.before.before.before.area_of.ensures, c.before.refusal.given.1)
+returns c = rw (← c.before.before.before.area_of_lem.ensures, c.before.refusal.given.1)
 
 returns-2 : tie.Need-returns-2
-returns-2 c = rw (← c.before.before.before.before.area_of.ensures, c.before.before.l.given.1) c.region-of.ensures
+returns-2 c = rw (← c.before.before.before.before.area_of_lem.ensures, c.before.before.l.given.1) c.region-of.ensures
 
 pub region-span-spec : {M : Type 1} → statement M
 region-span-spec =

@@ -5,14 +5,14 @@ use Prim.Native.Nat.{◌≤◌}
 use native.Mathlib.Omega.{arith}
 use lib.Dec.{eqb}
 use Rattle.refusal_rules.specs.Tests.{within}
-use Rattle.refusal_rules.proofs.Exactness.{within-exactly}
+use Rattle.refusal_rules.proofs.Exactness.{within_exactly}
 use borrow.Author.Rules.{rules}
 use Rattle.bands.proofs.has_band.Statement.{statement}
 use Rattle.bands.proofs.has_band.Tie as tie
 
 -- the bounds of a band that has a bit
 bounds : (c : tie.Then1) → let b = c.before.before.args.band in (1 ≤ b) × (b ≤ 64)
-bounds c = (within-exactly 1 64 c.before.before.args.band).sound (sym c.before.within.ensures ∙ c.if1.true)
+bounds c = (within_exactly 1 64 c.before.before.args.band).sound (sym c.before.within.ensures ∙ c.if1.true)
 
 within-requires : tie.Need-within-requires
 within-requires c κs = search rules

@@ -4,7 +4,7 @@ use Prim.Native.Nat.{◌-◌, ◌/◌, ◌^◌}
 use lib.Bits.{and_mask}
 use borrow.Author.Rules.{rules}
 use borrow.Author.Tests.{lt-ltb, le-ltb}
-use Rattle.area_rules.specs.Bands.{mapBit}
+use Rattle.area_rules.specs.Bands.{map_bit}
 use Rattle.bands.proofs.map_bit.Statement.{statement}
 use Rattle.bands.proofs.map_bit.Tie as tie
 
@@ -18,14 +18,14 @@ shr-result-2 c = search rules
 
 -- src/lib.rt:19:1
 returns : tie.Need-returns
-unfolding mapBit
+unfolding map_bit
 returns c =
     let a = c.before.args in
     rw (lt-ltb a.i 32 c.if1.true) (and_mask (a.map / 2 ^ a.i) 1)
 
 -- src/lib.rt:19:1
 returns-2 : tie.Need-returns-2
-unfolding mapBit
+unfolding map_bit
 returns-2 c =
     let a = c.before.args in
     rw (le-ltb a.i 32 c.if1.false) (and_mask (a.map2 / 2 ^ (a.i - 32)) 1)

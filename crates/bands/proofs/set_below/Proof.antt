@@ -5,20 +5,20 @@ use Prim.Native.Nat.{◌-◌, ◌≤◌}
 use native.Mathlib.Numerals.{add-one}
 use native.Mathlib.Omega.{arith}
 use borrow.Author.Rules.{rules}
-use Rattle.area_rules.specs.Bands.{setBelow}
-use Rattle.area_rules.proofs.Bands.{bit-most, below-most}
+use Rattle.area_rules.specs.Bands.{set_below}
+use Rattle.area_rules.proofs.Bands.{bit_most, below_most}
 use Rattle.bands.proofs.set_below.Statement.{statement}
 use Rattle.bands.proofs.set_below.Tie as tie
 
 abbrev invariant-loop : tie.invariant-loop
-invariant-loop map map2 n count₀ i₀ count i = (i ≤ n) × (count ≡ setBelow map map2 i)
+invariant-loop map map2 n count₀ i₀ count i = (i ≤ n) × (count ≡ set_below map map2 i)
 
 abbrev decreases-loop : tie.decreases-loop
 decreases-loop map map2 n count₀ i₀ count i = n - i
 
 -- src/lib.rt:37:5
 loop-holds : tie.Need-loop-init invariant-loop decreases-loop
-unfolding setBelow
+unfolding set_below
 loop-holds c = search rules
 
 -- src/lib.rt:38:18
@@ -30,7 +30,7 @@ add-count : tie.Need-overflow-add-count invariant-loop decreases-loop
 add-count c =
     let h = c.before.before.loop in
     let a = c.before.before.before.args in
-    omega (arith, h.invariant, c.map-bit.ensures, bit-most a.map a.map2 h.i, below-most a.map a.map2 h.i)
+    omega (arith, h.invariant, c.map-bit.ensures, bit_most a.map a.map2 h.i, below_most a.map a.map2 h.i)
 
 -- src/lib.rt:39:9
 add-i : tie.Need-overflow-add-i invariant-loop decreases-loop
@@ -42,14 +42,14 @@ loop-less c = omega arith
 
 -- src/lib.rt:37:5
 loop-again : tie.Need-loop-preserved invariant-loop decreases-loop
-unfolding setBelow
+unfolding set_below
 loop-again c = (omega arith, rw (add-one, c.before.before.loop.invariant.1, c.map-bit.ensures))
 
 -- src/lib.rt:31:1
 returns : tie.Need-returns invariant-loop decreases-loop
 returns c =
     let a = c.before.before.args in
-    c.before.loop.invariant.1 ∙ ap (setBelow a.map a.map2) (omega arith)
+    c.before.loop.invariant.1 ∙ ap (set_below a.map a.map2) (omega arith)
 
 pub set-below-spec : {M : Type 1} → statement M
 set-below-spec =

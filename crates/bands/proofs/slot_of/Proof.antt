@@ -3,17 +3,17 @@
 use mathlib.Core.Path.{◌≡◌, sym, ◌∙◌}
 use mathlib.Core.List.{[], ◌∷◌}
 use lib.Dec.{ltb}
-use Rattle.refusal_rules.specs.Rules.{rule, firstFault, chained}
-use Rattle.refusal_rules.proofs.Tables.{by-table}
+use Rattle.refusal_rules.specs.Rules.{rule, first_fault, chained}
+use Rattle.refusal_rules.proofs.Tables.{by_table}
 use borrow.Author.Rules.{rules}
 use Rattle.bands.proofs.slot_of.Statement.{statement}
 use Rattle.bands.proofs.slot_of.Tie as tie
 
 verdict : (c : tie.After-check) → let s = c.before.before.before.which.given.0.0 in
     let l = c.before.before.before.before.before.args.layout in
-    c.check.result ≡ firstFault (rule (ltb s l.bands) 7 0 ∷ [])
+    c.check.result ≡ first_fault (rule (ltb s l.bands) 7 0 ∷ [])
 unfolding chained
-verdict c = by-table _ c.check.ensures
+verdict c = by_table _ c.check.ensures
 
 enum-known-which : tie.Need-enum-known-which
 enum-known-which c = search rules

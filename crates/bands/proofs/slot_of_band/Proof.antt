@@ -3,35 +3,35 @@
 use mathlib.Core.Path.{◌≡◌, sym, ap, ◌∙◌}
 use native.Mathlib.Omega.{arith}
 use Rattle.refusal_rules.specs.Answers.{gives}
-use Rattle.refusal_rules.specs.Rules.{firstFault, chained}
-use Rattle.refusal_rules.proofs.Tables.{by-table, pass-hold}
-use Rattle.area_rules.specs.Bands.{secondMap, bandRules, bandSlot}
-use Rattle.area_rules.proofs.Bands.{HasBand, band-exactly}
+use Rattle.refusal_rules.specs.Rules.{first_fault, chained}
+use Rattle.refusal_rules.proofs.Tables.{by_table, pass_hold}
+use Rattle.area_rules.specs.Bands.{second_map, band_rules, band_slot}
+use Rattle.area_rules.proofs.Bands.{HasBand, band_exactly}
 use borrow.Author.Rules.{rules}
 use Rattle.bands.proofs.slot_of_band.Statement.{statement}
 use Rattle.bands.proofs.slot_of_band.Tie as tie
 
 verdict : (c : tie.After-check2)
-    → let a = c.before.before.before.before.before.args in c.check2.result ≡ firstFault (bandRules a.map a.map2 a.bands a.band)
-unfolding bandRules chained
+    → let a = c.before.before.before.before.before.args in c.check2.result ≡ first_fault (band_rules a.map a.map2 a.bands a.band)
+unfolding band_rules chained
 verdict c =
-    by-table
+    by_table
     _
     (rw (
       c.check2.ensures,
       c.before.has-band.ensures,
       c.before.before.check.ensures,
       c.before.before.before.set_below.ensures,
-      c.before.before.before.before.second-map.ensures,
+      c.before.before.before.before.second_map.ensures,
     ))
 
 -- where it passes, the map has the band
 has : (c : tie.After-enum-told)
-    → let a = c.before.before.before.before.before.before.before.args in HasBand a.map (secondMap a.bands a.map2) a.band
-unfolding bandRules
+    → let a = c.before.before.before.before.before.before.before.args in HasBand a.map (second_map a.bands a.map2) a.band
+unfolding band_rules
 has c =
     let a = c.before.before.before.before.before.before.before.args in
-    (band-exactly a.map (secondMap a.bands a.map2) a.band).sound (pass-hold _ (sym (verdict c.before.before) ∙ c.enum_told.given.1)).1.0
+    (band_exactly a.map (second_map a.bands a.map2) a.band).sound (pass_hold _ (sym (verdict c.before.before) ∙ c.enum_told.given.1)).1.0
 
 second-map-requires : tie.Need-second-map-requires
 second-map-requires c κs = search rules
@@ -61,12 +61,12 @@ set-below-requires-2 : tie.Need-set-below-requires-2
 set-below-requires-2 c κs = omega (arith, (has c).to)
 
 returns : tie.Need-returns
-unfolding bandSlot
+unfolding band_slot
 returns c = rw (sym (verdict c.before.before.before) ∙ c.before.refusal.given.1)
 
 returns-2 : tie.Need-returns-2
-unfolding bandSlot
-returns-2 c = rw (sym (verdict c.before.before.before) ∙ c.before.enum_told.given.1) (ap gives (rw (c.set-below2.ensures, c.before.before.before.before.before.before.before.second-map.ensures)))
+unfolding band_slot
+returns-2 c = rw (sym (verdict c.before.before.before) ∙ c.before.enum_told.given.1) (ap gives (rw (c.set-below2.ensures, c.before.before.before.before.before.before.before.second_map.ensures)))
 
 pub slot-of-band-spec : {M : Type 1} → statement M
 slot-of-band-spec =

@@ -4,24 +4,24 @@ use mathlib.Core.Path.{◌≡◌, ap, ap₂, ◌∙◌}
 use Prim.Native.Nat.{◌<◌}
 use native.Mathlib.Omega.{arith}
 use borrow.Author.Rules.{rules}
-use Rattle.calendar_rules.specs.Gregorian.{leap, daysBefore, monthOf, dateIn}
-use Rattle.calendar_rules.proofs.Months.{month-lies}
+use Rattle.calendar_rules.specs.Gregorian.{leap, days_before, month_of, date_in}
+use Rattle.calendar_rules.proofs.Months.{month_lies}
 use Rattle.calendar.proofs.date_in.Statement.{statement}
 use Rattle.calendar.proofs.date_in.Tie as tie
 
 -- the month that was found
-month-is : (c : tie.After-month-of) → let a = c.before.before.args in c.month-of.result ≡ monthOf (leap a.year) a.day
-month-is c = c.month-of.ensures ∙ ap (λ t. monthOf t c.before.before.args.day) c.before.is-leap.ensures
+month-is : (c : tie.After-month-of) → let a = c.before.before.args in c.month-of.result ≡ month_of (leap a.year) a.day
+month-is c = c.month-of.ensures ∙ ap (λ t. month_of t c.before.before.args.day) c.before.is-leap.ensures
 
 month-small : (c : tie.After-month-of) → c.month-of.result < 12
 month-small c =
     let a = c.before.before.args in
-    omega (arith, month-is c, (month-lies (leap a.year) a.day 11).month)
+    omega (arith, month-is c, (month_lies (leap a.year) a.day 11).month)
 
 -- the days before it
 days-are : (c : tie.After-days-before)
-    → let a = c.before.before.before.args in c.days-before.result ≡ daysBefore (leap a.year) (monthOf (leap a.year) a.day)
-days-are c = c.days-before.ensures ∙ ap₂ daysBefore c.before.before.is-leap.ensures (month-is c.before)
+    → let a = c.before.before.before.args in c.days-before.result ≡ days_before (leap a.year) (month_of (leap a.year) a.day)
+days-are c = c.days-before.ensures ∙ ap₂ days_before c.before.before.is-leap.ensures (month-is c.before)
 
 is-leap-requires : tie.Need-is-leap-requires
 is-leap-requires c κs = search rules
@@ -41,10 +41,10 @@ days-before-requires c κs = month-small c
 sub-t8 : tie.Need-overflow-sub-t8
 sub-t8 c =
     let s = c.before.before.before in
-    omega (arith, days-are c, (month-lies (leap s.args.year) s.args.day 11).starts s.requires)
+    omega (arith, days-are c, (month_lies (leap s.args.year) s.args.day 11).starts s.requires)
 
 returns : tie.Need-returns
-unfolding dateIn
+unfolding date_in
 returns c = rw (days-are c, month-is c.before)
 
 pub date-in-spec : {M : Type 1} → statement M

@@ -2,11 +2,11 @@
 -- Assumes nothing.
 use mathlib.Core.Path.{sym, ap, ◌∙◌}
 use borrow.Author.Rules.{rules}
-use Rattle.refusal_rules.specs.Rules.{judge, first, firstFault}
+use Rattle.refusal_rules.specs.Rules.{judge, first, first_fault}
 use Rattle.endian_rules.proofs.Signs.{NotNegative, not_negative, negative}
 use mir.Syntax.{w32}
 use mir.Val.{to_z, of_z}
-use Rattle.calendar_rules.specs.Dates.{dateRules, dateOf}
+use Rattle.calendar_rules.specs.Dates.{date_rules, date_of}
 use Rattle.calendar.proofs.date_of.Statement.{statement}
 use Rattle.calendar.proofs.date_of.Tie as tie
 
@@ -20,11 +20,11 @@ date-of-number-requires : tie.Need-date-of-number-requires
 date-of-number-requires c κs = search rules
 
 returns : tie.Need-returns
-returns c = c.date-of-number.ensures ∙ sym (ap dateOf (low c.before).number)
+returns c = c.date-of-number.ensures ∙ sym (ap date_of (low c.before).number)
 
 returns-2 : tie.Need-returns-2
-unfolding dateOf dateRules firstFault first judge
-returns-2 c = sym (ap dateOf (negative c.before.args.word c.before.ranges.word c.if1.false).number)
+unfolding date_of date_rules first_fault first judge
+returns-2 c = sym (ap date_of (negative c.before.args.word c.before.ranges.word c.if1.false).number)
 
 pub date-of-spec : {M : Type 1} → statement M
 date-of-spec = tie.close (tie.spec cast-date-of-number date-of-number-requires returns returns-2)

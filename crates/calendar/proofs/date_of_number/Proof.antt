@@ -5,20 +5,20 @@ use Prim.Native.Nat.{ℕ}
 use lib.Dec.{leb, leb-zero}
 use lib.IntN.{pos}
 use borrow.Author.Rules.{rules}
-use Rattle.refusal_rules.specs.Rules.{rule, first, firstFault, chained}
+use Rattle.refusal_rules.specs.Rules.{rule, first, first_fault, chained}
 use Rattle.refusal_rules.specs.Answers.{gives}
-use Rattle.refusal_rules.proofs.Tables.{judge-holds, by-table, pass-hold}
-use Rattle.calendar_rules.specs.Dates.{dateRules, dateOf}
-use Rattle.calendar_rules.proofs.Dates.{hold-accepted}
+use Rattle.refusal_rules.proofs.Tables.{judge-holds, by_table, pass_hold}
+use Rattle.calendar_rules.specs.Dates.{date_rules, date_of}
+use Rattle.calendar_rules.proofs.Dates.{hold_accepted}
 use Rattle.calendar.proofs.date_of_number.Statement.{statement}
 use Rattle.calendar.proofs.date_of_number.Tie as tie
 
 -- what the two checks say, and the first rule, which holds of every number
-verdict : (c : tie.After-check2) → c.check2.result ≡ firstFault (dateRules (pos c.before.before.before.before.before.args.n))
-unfolding dateRules chained first
+verdict : (c : tie.After-check2) → c.check2.result ≡ first_fault (date_rules (pos c.before.before.before.before.before.args.n))
+unfolding date_rules chained first
 verdict c =
     let n : ℕ = c.before.before.before.before.before.args.n in
-    by-table
+    by_table
     _
     (rw (
       c.check2.ensures,
@@ -51,17 +51,17 @@ enum_told : tie.Need-enum-told
 enum_told c = search rules
 
 date-in-requires : tie.Need-date-in-requires
-date-in-requires c κs = (hold-accepted _ (pass-hold _ (sym (verdict c.before.before) ∙ c.enum_told.given.1))).day-from
+date-in-requires c κs = (hold_accepted _ (pass_hold _ (sym (verdict c.before.before) ∙ c.enum_told.given.1))).day_from
 
 enum-known-refusal : tie.Need-enum-known-refusal
 enum-known-refusal c = search rules
 
 returns : tie.Need-returns
-unfolding dateOf
+unfolding date_of
 returns c = rw (sym (verdict c.before.before.before) ∙ c.before.enum_told.given.1) (ap gives c.date-in.ensures)
 
 returns-2 : tie.Need-returns-2
-unfolding dateOf
+unfolding date_of
 returns-2 c = rw (sym (verdict c.before.before.before) ∙ c.before.refusal.given.1)
 
 pub date-of-number-spec : {M : Type 1} → statement M

@@ -1,7 +1,7 @@
 -- `calendar::days_before` meets its contract: the table's rule, at the entry that is read.
 -- Assumes nothing.
 use borrow.Author.Rules.{rules}
-use Rattle.calendar_rules.proofs.Months.{common-entry, leap-entry}
+use Rattle.calendar_rules.proofs.Months.{common_entry, leap-entry}
 use Rattle.calendar.proofs.days_before.Statement.{statement}
 use Rattle.calendar.proofs.days_before.Tie as tie
 
@@ -24,7 +24,7 @@ returns : tie.Need-returns
 returns c = rw c.if1.true (leap-entry c.before.args.month c.before.requires)
 
 returns-2 : tie.Need-returns-2
-returns-2 c = rw c.if1.false (common-entry c.before.args.month c.before.requires)
+returns-2 c = rw c.if1.false (common_entry c.before.args.month c.before.requires)
 
 pub days-before-spec : {M : Type 1} → statement M
 days-before-spec =

@@ -4,13 +4,13 @@
 use mathlib.Core.Path.{◌≡◌, refl, sym, ap, ◌∙◌}
 use Prim.Native.Nat.{◌≤◌}
 use native.Mathlib.Omega.{arith}
-use Rattle.calendar_rules.specs.Gregorian.{lastBefore}
-use Rattle.calendar_rules.proofs.Months.{last-here, last-back}
+use Rattle.calendar_rules.specs.Gregorian.{last_before}
+use Rattle.calendar_rules.proofs.Months.{last_here, last_back}
 use Rattle.calendar.proofs.month_of.Statement.{statement}
 use Rattle.calendar.proofs.month_of.Tie as tie
 
 abbrev invariant-loop : tie.invariant-loop
-invariant-loop leap day month₀ month = (month ≤ 11) × (lastBefore leap day month ≡ lastBefore leap day 11)
+invariant-loop leap day month₀ month = (month ≤ 11) × (last_before leap day month ≡ last_before leap day 11)
 
 abbrev decreases-loop : tie.decreases-loop
 decreases-loop leap day month₀ month = month
@@ -25,7 +25,7 @@ returns : tie.Need-returns invariant-loop decreases-loop
 returns c =
     let a = c.before.before.before.before.args in
     let l = c.before.before.before.loop in
-    sym (last-here a.leap a.day l.month c.before.before.loop-test.true (rw c.before.days-before.ensures at c.if1.true)) ∙ l.invariant.1
+    sym (last_here a.leap a.day l.month c.before.before.loop-test.true (rw c.before.days-before.ensures at c.if1.true)) ∙ l.invariant.1
 
 sub-month : tie.Need-overflow-sub-month invariant-loop decreases-loop
 sub-month c = omega arith
@@ -38,15 +38,15 @@ loop-again c =
     let a = c.before.before.before.before.args in
     let l = c.before.before.before.loop in (
       omega arith,
-      sym (last-back a.leap a.day l.month c.before.before.loop-test.true (rw c.before.days-before.ensures at c.if1.false)) ∙ l.invariant.1,
+      sym (last_back a.leap a.day l.month c.before.before.loop-test.true (rw c.before.days-before.ensures at c.if1.false)) ∙ l.invariant.1,
     )
 
 returns-2 : tie.Need-returns-2 invariant-loop decreases-loop
-unfolding lastBefore
+unfolding last_before
 returns-2 c =
     let a = c.before.before.args in
     let none : 0 ≡ c.before.loop.month = omega arith in
-    ap (lastBefore a.leap a.day) none ∙ c.before.loop.invariant.1
+    ap (last_before a.leap a.day) none ∙ c.before.loop.invariant.1
 
 pub month-of-spec : {M : Type 1} → statement M
 month-of-spec =

@@ -2,11 +2,11 @@
 -- Assumes nothing.
 use mathlib.Core.Path.{sym, ap, ◌∙◌}
 use borrow.Author.Rules.{rules}
-use Rattle.refusal_rules.specs.Rules.{judge, first, firstFault}
+use Rattle.refusal_rules.specs.Rules.{judge, first, first_fault}
 use Rattle.endian_rules.proofs.Signs.{NotNegative, not_negative, negative}
 use mir.Syntax.{w32}
 use mir.Val.{to_z, of_z}
-use Rattle.calendar_rules.specs.Times.{timeRules, timeOf}
+use Rattle.calendar_rules.specs.Times.{time_rules, time_of}
 use Rattle.calendar.proofs.time_of.Statement.{statement}
 use Rattle.calendar.proofs.time_of.Tie as tie
 
@@ -20,11 +20,11 @@ time-of-number-requires : tie.Need-time-of-number-requires
 time-of-number-requires c κs = search rules
 
 returns : tie.Need-returns
-returns c = c.time-of-number.ensures ∙ sym (ap timeOf (low c.before).number)
+returns c = c.time-of-number.ensures ∙ sym (ap time_of (low c.before).number)
 
 returns-2 : tie.Need-returns-2
-unfolding timeOf timeRules firstFault first judge
-returns-2 c = sym (ap timeOf (negative c.before.args.word c.before.ranges.word c.if1.false).number)
+unfolding time_of time_rules first_fault first judge
+returns-2 c = sym (ap time_of (negative c.before.args.word c.before.ranges.word c.if1.false).number)
 
 pub time-of-spec : {M : Type 1} → statement M
 time-of-spec = tie.close (tie.spec cast-time-of-number time-of-number-requires returns returns-2)

@@ -8,7 +8,7 @@ use mir.Facts.{sfits_to_z, to_z-of_z}
 use Prim.Native.Nat.{◌-◌}
 use native.Mathlib.Omega.{arith}
 use borrow.Author.Rules.{rules}
-use Rattle.endian_rules.proofs.Signs.{complement, complement-fits}
+use Rattle.endian_rules.proofs.Signs.{complement, complement_fits}
 use Rattle.endian.proofs.signed.Statement.{statement}
 use Rattle.endian.proofs.signed.Tie as tie
 
@@ -26,7 +26,7 @@ cast-result-2 : tie.Need-overflow-cast-result-2
 cast-result-2 c = search rules
 
 sub-result-2 : tie.Need-overflow-sub-result-2
-sub-result-2 c = complement-fits _ (cast-result-2 c).sfits
+sub-result-2 c = complement_fits _ (cast-result-2 c).sfits
 
 returns : tie.Need-returns
 returns c = search rules

@@ -8,7 +8,7 @@ use lib.ListN.{get_or, take, drop}
 use Rattle.endian_rules.specs.Numbers.{ordered, number_at}
 use Rattle.endian_rules.specs.declared.Order.{Order}
 use Rattle.endian_rules.specs.declared.Order.TheVariants.{Big, Little}
-use Rattle.endian_rules.proofs.Numbers.{sumOfPowers}
+use Rattle.endian_rules.proofs.Numbers.{sum_of_powers}
 use Rattle.endian_rules.proofs.Places.{number-sum}
 use Rattle.endian_steps.proofs.read_number.Statement.{statement}
 use Rattle.endian_steps.proofs.read_number.Tie as tie
@@ -16,7 +16,7 @@ use Rattle.endian_steps.proofs.read_number.Tie as tie
 -- the number that the contract asks for, as a sum over the bytes that the code takes
 summed : (s : tie.Start) (o : Order) → s.args.order ≡ o
     → number_at s.args.order s.args.width s.args.file.now s.args.at
-    ≡ sumOfPowers (λ k. get_or (ordered o (take (s.args.at + s.args.width - s.args.at) (drop s.args.at s.args.file.now))) k 0) 4
+    ≡ sum_of_powers (λ k. get_or (ordered o (take (s.args.at + s.args.width - s.args.at) (drop s.args.at s.args.file.now))) k 0) 4
 summed s o e =
     let long : s.args.at + s.args.width - s.args.at ≡ s.args.width = omega arith in
     rw (e, long) (number-sum o s.args.width s.args.file.now s.args.at 4 s.requires.0)
@@ -100,11 +100,11 @@ add-result-6 : tie.Need-overflow-add-result-6
 add-result-6 c = search rules
 
 returns : tie.Need-returns
-unfolding sumOfPowers
+unfolding sum_of_powers
 returns c = omega (arith, summed c.before.before.before.before.before.before.before.before Big c.before.before.before.before.enum_told.given.1)
 
 returns-2 : tie.Need-returns-2
-unfolding sumOfPowers
+unfolding sum_of_powers
 returns-2 c = omega (arith, summed c.before.before.before.before.before.before.before.before Little c.before.before.before.before.enum-told2.given.1)
 
 pub read-number-spec : {M : Type 1} → statement M

@@ -8,13 +8,13 @@ use lib.ListN.{length}
 use lib.Seq.{sets, length-sets}
 use Rattle.endian_rules.specs.Numbers.{encode}
 use Rattle.endian_rules.proofs.Numbers.{position-inside}
-use Rattle.endian_rules.proofs.Places.{lowStart, written_none, written-more, written_all, left-more}
+use Rattle.endian_rules.proofs.Places.{low_start, written_none, written_more, written_all, left_more}
 use Rattle.endian_steps.proofs.write_number.Statement.{statement}
 use Rattle.endian_steps.proofs.write_number.Tie as tie
 
 abbrev invariant-loop : tie.invariant-loop
 invariant-loop order width file₀ at n k₀ left₀ file k left =
-    (k ≤ width) × (file ≡ sets file₀ (at + lowStart order width k) (encode order k n)) × (left ≡ n / 256 ^ k)
+    (k ≤ width) × (file ≡ sets file₀ (at + low_start order width k) (encode order k n)) × (left ≡ n / 256 ^ k)
 
 abbrev decreases-loop : tie.decreases-loop
 decreases-loop order width file₀ at n k₀ left₀ file k left = width - k
@@ -38,7 +38,7 @@ slice-write-file c =
       arith,
       c.digit-position.ensures,
       position-inside a.order a.width l.k c.before.loop-test.true,
-      ap length l.invariant.1 ∙ length-sets a.file.now (a.at + lowStart a.order a.width l.k) (encode a.order l.k a.n),
+      ap length l.invariant.1 ∙ length-sets a.file.now (a.at + low_start a.order a.width l.k) (encode a.order l.k a.n),
     )
 
 add-k : tie.Need-overflow-add-k invariant-loop decreases-loop
@@ -52,8 +52,8 @@ loop-again c =
     let a = c.before.before.before.before.args in
     let l = c.before.before.loop in (
       omega arith,
-      rw (l.invariant.1, c.digit-position.ensures, l.invariant.2) (written-more a.order a.width a.file.now a.at a.n l.k c.before.loop-test.true),
-      rw l.invariant.2 (left-more a.n l.k),
+      rw (l.invariant.1, c.digit-position.ensures, l.invariant.2) (written_more a.order a.width a.file.now a.at a.n l.k c.before.loop-test.true),
+      rw l.invariant.2 (left_more a.n l.k),
     )
 
 same_length : tie.Need-same-length invariant-loop decreases-loop
@@ -64,7 +64,7 @@ returns c =
     let a = c.before.before.before.args in
     let all : c.before.loop.k ≡ a.width = omega arith in
     c.before.loop.invariant.1
-    ∙ ap (λ (k : ℕ). sets a.file.now (a.at + lowStart a.order a.width k) (encode a.order k a.n)) all
+    ∙ ap (λ (k : ℕ). sets a.file.now (a.at + low_start a.order a.width k) (encode a.order k a.n)) all
     ∙ written_all a.order a.width a.file.now a.at a.n
 
 pub write-number-spec : {M : Type 1} → statement M

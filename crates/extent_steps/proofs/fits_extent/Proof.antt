@@ -9,19 +9,19 @@ use lib.Dec.{leb}
 use borrow.Author.Rules.{rules}
 use borrow.Author.Tests.{le-leb, lt-leb}
 use Rattle.lists.specs.Choices.{both}
-use Rattle.extent_rules.specs.Rooms.{last_end, fitsIn}
+use Rattle.extent_rules.specs.Rooms.{last_end, fits_in}
 use Rattle.extent_rules.specs.declared.Extent.{Extent}
 use Rattle.extent_steps.proofs.fits_extent.Statement.{statement}
 use Rattle.extent_steps.proofs.fits_extent.Tie as tie
 
-far : (e : Extent) (need : ℕ) → last_end < need → fitsIn need e ≡ false
+far : (e : Extent) (need : ℕ) → last_end < need → fits_in need e ≡ false
 far e need l = rw (lt-leb (e.start + need) last_end (omega (arith, l))) (neither (leb need e.length))
   where
     neither : (t : Bool) → both t false ≡ false
     neither true = refl
     neither false = refl
 
-near : (e : Extent) (need : ℕ) → need ≤ last_end → both (leb need e.length) (leb e.start (last_end - need)) ≡ fitsIn need e
+near : (e : Extent) (need : ℕ) → need ≤ last_end → both (leb need e.length) (leb e.start (last_end - need)) ≡ fits_in need e
 near e need l = ap (both (leb need e.length)) (step (dec_lt last_end (e.start + need)))
   where
     step : Dec (last_end < e.start + need) → leb e.start (last_end - need) ≡ leb (e.start + need) last_end

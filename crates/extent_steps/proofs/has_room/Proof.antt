@@ -7,31 +7,31 @@ use mathlib.Core.List.{List}
 use Prim.Native.Nat.{ℕ, suc, ◌-◌, ◌/◌, ◌≤◌, ◌<◌}
 use native.Mathlib.Omega.{arith}
 use lib.ListN.{length}
-use Rattle.lists.proofs.Built.{length-listOf}
+use Rattle.lists.proofs.Built.{length-list_of}
 use Rattle.endian_rules.specs.Words.{word_at}
 use Rattle.endian_rules.specs.declared.Order.{Order}
 use Rattle.grid_rules.proofs.Slots.{below_more}
-use Rattle.extent_rules.specs.Stretches.{extentEnd}
-use Rattle.extent_rules.specs.Rooms.{hasRoom, fitsIn}
-use Rattle.extent_rules.specs.Steps.{GridAccepted, nthRun}
+use Rattle.extent_rules.specs.Stretches.{extent_end}
+use Rattle.extent_rules.specs.Rooms.{has_room, fits_in}
+use Rattle.extent_rules.specs.Steps.{GridAccepted, nth_run}
 use Rattle.extent_rules.specs.declared.Extent.{Extent}
-use Rattle.extent_rules.proofs.Runs.{run_inside, run-next, run-begin, run_more, all-some, runs-are}
+use Rattle.extent_rules.proofs.Runs.{run_inside, run_next, run_begin, run_more, all_some, runs_are}
 use Rattle.extent_rules.proofs.Fit.{fits-room, fits-none}
 use Rattle.extent_steps.proofs.has_room.Statement.{statement}
 use Rattle.extent_steps.proofs.has_room.Tie as tie
 
 -- what is known where the loop is at an extent: it is run i + 1
 record At (o : Order) (f : List ℕ) (need : ℕ) (e : Extent) (i : ℕ) : Type 0 where
-  at : e ≡ nthRun o f (suc i)
-  some : (j : ℕ) → j < i → 0 < (nthRun o f (suc j)).length
-  none : (j : ℕ) → j < i → fitsIn need (nthRun o f (suc j)) ≡ false
+  at : e ≡ nth_run o f (suc i)
+  some : (j : ℕ) → j < i → 0 < (nth_run o f (suc j)).length
+  none : (j : ℕ) → j < i → fits_in need (nth_run o f (suc j)) ≡ false
 
 -- where that run has no words, there is no room
 room-none : (o : Order) (f : List ℕ) → GridAccepted o f → (need : ℕ) → 1 ≤ need → (e : Extent) (i : ℕ) → At o f need e i → ¬ (0 < e.length)
-    → hasRoom (word_at o f) (length f / 4) need ≡ false
+    → has_room (word_at o f) (length f / 4) need ≡ false
 room-none o f a need l e i x empty =
-    let listed = runs-are o f a i (omega (arith, empty, ap (λ (y : Extent). y.length) x.at)) x.some in
-    fits-none o f a need l (λ j m. x.none j (omega (arith, m, ap length listed ∙ length-listOf (λ k. nthRun o f (suc k)) i)))
+    let listed = runs_are o f a i (omega (arith, empty, ap (λ (y : Extent). y.length) x.at)) x.some in
+    fits-none o f a need l (λ j m. x.none j (omega (arith, m, ap length listed ∙ length-list_of (λ k. nth_run o f (suc k)) i)))
 
 abbrev invariant-loop : tie.invariant-loop
 invariant-loop file order need e₀ e = (i : ℕ) × At order file need e i
@@ -47,7 +47,7 @@ run-after-requires c κs =
     let s = c.before.before in
     let f = s.args.file.now in
     let o = s.args.order in
-    (s.requires.0, omega (arith, run_inside o f s.requires.0 0, ap extentEnd (c.directory-extent.ensures ∙ run-begin o f)))
+    (s.requires.0, omega (arith, run_inside o f s.requires.0 0, ap extent_end (c.directory-extent.ensures ∙ run_begin o f)))
 
 loop-holds : tie.Need-loop-init invariant-loop decreases-loop
 loop-holds c =
@@ -56,7 +56,7 @@ loop-holds c =
     let o = s.args.order in (
       0,
       record {
-        at = c.run-after.ensures ∙ run_more o f 0 _ (c.before.directory-extent.ensures ∙ run-begin o f);
+        at = c.run_after_lem.ensures ∙ run_more o f 0 _ (c.before.directory-extent.ensures ∙ run_begin o f);
         some = λ j l. let z : ⊥ = omega (arith, l) in absurd z;
         none = λ j l. let z : ⊥ = omega (arith, l) in absurd z;
       },
@@ -71,7 +71,7 @@ returns c =
     let f = s.args.file.now in
     let o = s.args.order in
     let i = c.before.before.before.before.loop in
-    let fit = subst (λ (x : Extent). fitsIn s.args.need x ≡ true) i.invariant.1.at (sym c.before.fits-extent.ensures ∙ c.if2.true) in
+    let fit = subst (λ (x : Extent). fits_in s.args.need x ≡ true) i.invariant.1.at (sym c.before.fits-extent.ensures ∙ c.if2.true) in
     sym (fits-room o f s.requires.0 s.args.need s.requires.1 i.invariant.0 fit i.invariant.1.none)
 
 run-after-requires-2 : tie.Need-run-after-requires-2 invariant-loop decreases-loop
@@ -80,7 +80,7 @@ run-after-requires-2 c κs =
     let f = s.args.file.now in
     let o = s.args.order in
     let i = c.before.before.before.before.loop in
-    (s.requires.0, omega (arith, run_inside o f s.requires.0 (suc i.invariant.0), ap extentEnd i.invariant.1.at))
+    (s.requires.0, omega (arith, run_inside o f s.requires.0 (suc i.invariant.0), ap extent_end i.invariant.1.at))
 
 loop-less : tie.Need-loop-smaller invariant-loop decreases-loop
 loop-less c =
@@ -92,9 +92,9 @@ loop-less c =
     omega (
       arith,
       c.before.before.before.if1.true,
-      ap extentEnd i.invariant.1.at,
+      ap extent_end i.invariant.1.at,
       ap (λ (x : Extent). x.start) next,
-      (run-next o f s.requires.0 (suc i.invariant.0)).from,
+      (run_next o f s.requires.0 (suc i.invariant.0)).from,
       run_inside o f s.requires.0 (suc (suc i.invariant.0)),
     )
 
@@ -104,13 +104,13 @@ loop-again c =
     let f = s.args.file.now in
     let o = s.args.order in
     let i = c.before.before.before.before.before.loop in
-    let some : 0 < (nthRun o f (suc i.invariant.0)).length = subst (λ (x : Extent). 0 < x.length) i.invariant.1.at c.before.before.before.if1.true in
-    let none = subst (λ (x : Extent). fitsIn s.args.need x ≡ false) i.invariant.1.at (sym c.before.before.fits-extent.ensures ∙ c.before.if2.false) in (
+    let some : 0 < (nth_run o f (suc i.invariant.0)).length = subst (λ (x : Extent). 0 < x.length) i.invariant.1.at c.before.before.before.if1.true in
+    let none = subst (λ (x : Extent). fits_in s.args.need x ≡ false) i.invariant.1.at (sym c.before.before.fits-extent.ensures ∙ c.before.if2.false) in (
       suc i.invariant.0,
       record {
         at = c.run-after2.ensures ∙ run_more o f (suc i.invariant.0) _ i.invariant.1.at;
-        some = all-some o f i.invariant.0 i.invariant.1.some some;
-        none = below_more {P = λ j. fitsIn s.args.need (nthRun o f (suc j)) ≡ false} i.invariant.0 i.invariant.1.none none;
+        some = all_some o f i.invariant.0 i.invariant.1.some some;
+        none = below_more {P = λ j. fits_in s.args.need (nth_run o f (suc j)) ≡ false} i.invariant.0 i.invariant.1.none none;
       },
     )
 

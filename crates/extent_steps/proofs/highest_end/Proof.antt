@@ -6,13 +6,13 @@ use Prim.Native.Nat.{ℕ, ◌+◌, ◌-◌, ◌≤◌}
 use native.Mathlib.Omega.{arith}
 use lib.ListN.{length}
 use Rattle.endian_rules.specs.Words.{word_at}
-use Rattle.extent_rules.specs.Stretches.{extentEnd, highestEnd}
-use Rattle.extent_rules.proofs.Slots.{slot-inside, highest-taken, highest-left}
+use Rattle.extent_rules.specs.Stretches.{extent_end, highest_end}
+use Rattle.extent_rules.proofs.Slots.{slot-inside, highest_taken, highest_left}
 use Rattle.extent_steps.proofs.highest_end.Statement.{statement}
 use Rattle.extent_steps.proofs.highest_end.Tie as tie
 
 abbrev invariant-loop : tie.invariant-loop
-invariant-loop file order n high₀ k₀ high k = (k ≤ n) × ((n ≡ word_at order file 10) × (high ≡ highestEnd (word_at order file) (12 + n) k))
+invariant-loop file order n high₀ k₀ high k = (k ≤ n) × ((n ≡ word_at order file 10) × (high ≡ highest_end (word_at order file) (12 + n) k))
 
 abbrev decreases-loop : tie.decreases-loop
 decreases-loop file order n high₀ k₀ high k = n - k
@@ -27,7 +27,7 @@ add-high : tie.Need-overflow-add-high invariant-loop decreases-loop
 add-high c = omega arith
 
 loop-holds : tie.Need-loop-init invariant-loop decreases-loop
-unfolding highestEnd
+unfolding highest_end
 loop-holds c = (omega arith, (c.read_word.ensures, refl))
 
 slot-extent-requires : tie.Need-slot-extent-requires invariant-loop decreases-loop
@@ -40,7 +40,7 @@ add-end c =
     let w = word_at a.order a.file.now in
     let inside = slot-inside w (length a.file.now) i.k c.before.before.before.before.before.before.requires
     (omega (arith, c.before.before.loop-test.true, i.invariant.1.0)) in
-    omega (arith, inside, ap extentEnd c.before.slot-extent.ensures)
+    omega (arith, inside, ap extent_end c.before.slot-extent.ensures)
 
 add-k : tie.Need-overflow-add-k invariant-loop decreases-loop
 add-k c = omega arith
@@ -57,8 +57,8 @@ loop-again c =
       omega (arith, c.before.before.before.loop-test.true),
       (
         i.invariant.1.0,
-        ⊎_elim (λ t. t.1 ∙ highest-taken w i.k _ slot _ i.high i.invariant.1.1 t.0.taken)
-            (λ t. t.1 ∙ highest-left w i.k _ slot _ i.high i.invariant.1.1 t.0.left) c.if1.branch,
+        ⊎_elim (λ t. t.1 ∙ highest_taken w i.k _ slot _ i.high i.invariant.1.1 t.0.taken)
+            (λ t. t.1 ∙ highest_left w i.k _ slot _ i.high i.invariant.1.1 t.0.left) c.if1.branch,
       ),
     )
 
@@ -68,7 +68,7 @@ returns c =
     let a = c.before.before.before.before.args in
     let w : ℕ → ℕ = word_at a.order a.file.now in
     let all : i.k ≡ w 10 = omega (arith, c.loop-test.false, i.invariant.0, i.invariant.1.0) in
-    i.invariant.1.1 ∙ ap (λ (m : ℕ). highestEnd w (12 + m) i.k) i.invariant.1.0 ∙ ap (highestEnd w (12 + w 10)) all
+    i.invariant.1.1 ∙ ap (λ (m : ℕ). highest_end w (12 + m) i.k) i.invariant.1.0 ∙ ap (highest_end w (12 + w 10)) all
 
 pub highest-end-spec : {M : Type 1} → statement M
 highest-end-spec =

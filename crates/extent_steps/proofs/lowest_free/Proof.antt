@@ -7,11 +7,11 @@ use Prim.Native.Nat.{ℕ, ◌-◌, ◌/◌, ◌≤◌, ◌<◌}
 use native.Mathlib.Decide.{dec_lt}
 use native.Mathlib.Omega.{arith}
 use lib.ListN.{length}
-use Rattle.lists.proofs.Lowest.{lowest-exactly}
+use Rattle.lists.proofs.Lowest.{lowest_exactly}
 use Rattle.endian_rules.specs.Words.{word_at}
-use Rattle.extent_rules.specs.Stretches.{isFree}
-use Rattle.extent_rules.specs.Steps.{pastGrid}
-use Rattle.extent_rules.proofs.Slots.{accepted-slots, PastIs, past_is}
+use Rattle.extent_rules.specs.Stretches.{is_free}
+use Rattle.extent_rules.specs.Steps.{past_grid}
+use Rattle.extent_rules.proofs.Slots.{accepted_slots, PastIs, past_is}
 use Rattle.extent_steps.proofs.lowest_free.Statement.{statement}
 use Rattle.extent_steps.proofs.lowest_free.Tie as tie
 
@@ -25,28 +25,28 @@ taken_more {P} {a} {b} {d} before behind q l m = step (dec_lt q b)
 
 abbrev invariant-loop : tie.invariant-loop
 invariant-loop file order p at₀ past₀ at past =
-    (p ≤ at) × ((at ≤ length file / 4) × ((past ≡ pastGrid (word_at order file) at (word_at order file 10)) ×
-    ((q : ℕ) → p ≤ q → q < at → isFree (word_at order file) q ≡ false)))
+    (p ≤ at) × ((at ≤ length file / 4) × ((past ≡ past_grid (word_at order file) at (word_at order file 10)) ×
+    ((q : ℕ) → p ≤ q → q < at → is_free (word_at order file) q ≡ false)))
 
 abbrev decreases-loop : tie.decreases-loop
 decreases-loop file order p at₀ past₀ at past = length file / 4 - at
 
 past-grid-requires : tie.Need-past-grid-requires invariant-loop decreases-loop
-past-grid-requires c κs = let s = c.before in accepted-slots s.args.order s.args.file.now s.requires.0
+past-grid-requires c κs = let s = c.before in accepted_slots s.args.order s.args.file.now s.requires.0
 
 loop-holds : tie.Need-loop-init invariant-loop decreases-loop
 loop-holds c = (omega arith, (c.before.before.requires.1, (c.past-grid.ensures, λ q l m. let z : ⊥ = omega (arith, l, m) in absurd z)))
 
 past-grid-requires-2 : tie.Need-past-grid-requires-2 invariant-loop decreases-loop
-past-grid-requires-2 c κs = let s = c.before.before.before.before in accepted-slots s.args.order s.args.file.now s.requires.0
+past-grid-requires-2 c κs = let s = c.before.before.before.before in accepted_slots s.args.order s.args.file.now s.requires.0
 
 loop-less : tie.Need-loop-smaller invariant-loop decreases-loop
 loop-less c =
     let s = c.before.before.before.before.before in
     let w = word_at s.args.order s.args.file.now in
     let i = c.before.before.loop in
-    let x : PastIs w (length s.args.file.now) i.at (pastGrid w i.at (w 10)) =
-    past_is w (length s.args.file.now) i.at (accepted-slots s.args.order s.args.file.now s.requires.0) in
+    let x : PastIs w (length s.args.file.now) i.at (past_grid w i.at (w 10)) =
+    past_is w (length s.args.file.now) i.at (accepted_slots s.args.order s.args.file.now s.requires.0) in
     omega (arith, c.before.loop-test.true, i.invariant.1.1.0, x.inside i.invariant.1.0)
 
 loop-again : tie.Need-loop-preserved invariant-loop decreases-loop
@@ -54,9 +54,9 @@ loop-again c =
     let s = c.before.before.before.before.before in
     let w = word_at s.args.order s.args.file.now in
     let i = c.before.before.loop in
-    let x : PastIs w (length s.args.file.now) i.at (pastGrid w i.at (w 10)) =
-    past_is w (length s.args.file.now) i.at (accepted-slots s.args.order s.args.file.now s.requires.0) in
-    let past : i.past ≡ pastGrid w i.at (w 10) = i.invariant.1.1.0 in (
+    let x : PastIs w (length s.args.file.now) i.at (past_grid w i.at (w 10)) =
+    past_is w (length s.args.file.now) i.at (accepted_slots s.args.order s.args.file.now s.requires.0) in
+    let past : i.past ≡ past_grid w i.at (w 10) = i.invariant.1.1.0 in (
       omega (arith, i.invariant.0, c.before.loop-test.true),
       (
         omega (arith, past, x.inside i.invariant.1.0),
@@ -72,10 +72,10 @@ returns c =
     let s = c.before.before.before.before in
     let w = word_at s.args.order s.args.file.now in
     let i = c.before.loop in
-    let x : PastIs w (length s.args.file.now) i.at (pastGrid w i.at (w 10)) =
-    past_is w (length s.args.file.now) i.at (accepted-slots s.args.order s.args.file.now s.requires.0) in
-    let free : isFree w i.at ≡ true = x.free (omega (arith, c.loop-test.false, i.invariant.1.1.0)) in
-    sym ((lowest-exactly (isFree w) s.args.p (length s.args.file.now / 4 - s.args.p) i.at).1 (
+    let x : PastIs w (length s.args.file.now) i.at (past_grid w i.at (w 10)) =
+    past_is w (length s.args.file.now) i.at (accepted_slots s.args.order s.args.file.now s.requires.0) in
+    let free : is_free w i.at ≡ true = x.free (omega (arith, c.loop-test.false, i.invariant.1.1.0)) in
+    sym ((lowest_exactly (is_free w) s.args.p (length s.args.file.now / 4 - s.args.p) i.at).1 (
     record { from = i.invariant.0; to = omega (arith, i.invariant.1.0); none = i.invariant.1.1.1; holds = λ l. free }
     ))
 

@@ -5,13 +5,13 @@ use mathlib.Core.Logic.{⊎_elim}
 use Prim.Native.Nat.{ℕ, ◌-◌, ◌≤◌}
 use native.Mathlib.Omega.{arith}
 use Rattle.endian_rules.specs.Words.{word_at}
-use Rattle.extent_rules.specs.Steps.{nextGrid}
-use Rattle.extent_rules.proofs.Slots.{next-taken, next-left}
+use Rattle.extent_rules.specs.Steps.{next_grid}
+use Rattle.extent_rules.proofs.Slots.{next_taken, next_left}
 use Rattle.extent_steps.proofs.next_grid.Statement.{statement}
 use Rattle.extent_steps.proofs.next_grid.Tie as tie
 
 abbrev invariant-loop : tie.invariant-loop
-invariant-loop file order whole p n next₀ k₀ next k = (k ≤ n) × ((n ≡ word_at order file 10) × (next ≡ nextGrid (word_at order file) whole p k))
+invariant-loop file order whole p n next₀ k₀ next k = (k ≤ n) × ((n ≡ word_at order file 10) × (next ≡ next_grid (word_at order file) whole p k))
 
 abbrev decreases-loop : tie.decreases-loop
 decreases-loop file order whole p n next₀ k₀ next k = n - k
@@ -23,7 +23,7 @@ cast-n : tie.Need-overflow-cast-n invariant-loop decreases-loop
 cast-n c = omega arith
 
 loop-holds : tie.Need-loop-init invariant-loop decreases-loop
-unfolding nextGrid
+unfolding next_grid
 loop-holds c = (omega arith, (c.read_word.ensures, refl))
 
 slot-extent-requires : tie.Need-slot-extent-requires invariant-loop decreases-loop
@@ -52,8 +52,8 @@ loop-again c =
       omega (arith, c.before.before.before.before.before.before.before.loop-test.true),
       (
         i.invariant.1.0,
-        ⊎_elim (λ t. t.1 ∙ next-taken w i.k _ slot a.whole a.p i.next i.invariant.1.1 (rw (← ahead) (sym test ∙ t.0.taken)))
-            (λ t. t.1 ∙ next-left w i.k _ slot a.whole a.p i.next i.invariant.1.1 (rw (← ahead) (sym test ∙ t.0.left)))
+        ⊎_elim (λ t. t.1 ∙ next_taken w i.k _ slot a.whole a.p i.next i.invariant.1.1 (rw (← ahead) (sym test ∙ t.0.taken)))
+            (λ t. t.1 ∙ next_left w i.k _ slot a.whole a.p i.next i.invariant.1.1 (rw (← ahead) (sym test ∙ t.0.left)))
             c.if1.branch,
       ),
     )
@@ -64,7 +64,7 @@ returns c =
     let a = c.before.before.before.before.args in
     let w : ℕ → ℕ = word_at a.order a.file.now in
     let all : i.k ≡ w 10 = omega (arith, c.loop-test.false, i.invariant.0, i.invariant.1.0) in
-    i.invariant.1.1 ∙ ap (nextGrid w a.whole a.p) all
+    i.invariant.1.1 ∙ ap (next_grid w a.whole a.p) all
 
 pub next-grid-spec : {M : Type 1} → statement M
 next-grid-spec =

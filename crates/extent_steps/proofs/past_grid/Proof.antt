@@ -6,14 +6,14 @@ use Prim.Native.Nat.{ℕ, ◌-◌, ◌≤◌}
 use native.Mathlib.Omega.{arith}
 use lib.ListN.{length}
 use Rattle.endian_rules.specs.Words.{word_at}
-use Rattle.extent_rules.specs.Stretches.{extentEnd}
-use Rattle.extent_rules.specs.Steps.{pastGrid}
-use Rattle.extent_rules.proofs.Slots.{slot-inside, past-taken, past-left}
+use Rattle.extent_rules.specs.Stretches.{extent_end}
+use Rattle.extent_rules.specs.Steps.{past_grid}
+use Rattle.extent_rules.proofs.Slots.{slot-inside, past_taken, past_left}
 use Rattle.extent_steps.proofs.past_grid.Statement.{statement}
 use Rattle.extent_steps.proofs.past_grid.Tie as tie
 
 abbrev invariant-loop : tie.invariant-loop
-invariant-loop file order p n past₀ k₀ past k = (k ≤ n) × ((n ≡ word_at order file 10) × (past ≡ pastGrid (word_at order file) p k))
+invariant-loop file order p n past₀ k₀ past k = (k ≤ n) × ((n ≡ word_at order file 10) × (past ≡ past_grid (word_at order file) p k))
 
 abbrev decreases-loop : tie.decreases-loop
 decreases-loop file order p n past₀ k₀ past k = n - k
@@ -25,7 +25,7 @@ cast-n : tie.Need-overflow-cast-n invariant-loop decreases-loop
 cast-n c = omega arith
 
 loop-holds : tie.Need-loop-init invariant-loop decreases-loop
-unfolding pastGrid
+unfolding past_grid
 loop-holds c = (omega arith, (c.read_word.ensures, refl))
 
 slot-extent-requires : tie.Need-slot-extent-requires invariant-loop decreases-loop
@@ -38,7 +38,7 @@ add-end c =
     let w = word_at a.order a.file.now in
     let inside = slot-inside w (length a.file.now) i.k c.before.before.before.before.before.before.requires
     (omega (arith, c.before.before.loop-test.true, i.invariant.1.0)) in
-    omega (arith, inside, ap extentEnd c.before.slot-extent.ensures)
+    omega (arith, inside, ap extent_end c.before.slot-extent.ensures)
 
 and-requires : tie.Need-and-requires invariant-loop decreases-loop
 and-requires c κs = tt
@@ -59,8 +59,8 @@ loop-again c =
       omega (arith, c.before.before.before.before.before.loop-test.true),
       (
         i.invariant.1.0,
-        ⊎_elim (λ t. t.1 ∙ past-taken w i.k _ slot a.p (sym test ∙ t.0.taken))
-            (λ t. t.1 ∙ past-left w i.k _ slot a.p i.past i.invariant.1.1 (sym test ∙ t.0.left))
+        ⊎_elim (λ t. t.1 ∙ past_taken w i.k _ slot a.p (sym test ∙ t.0.taken))
+            (λ t. t.1 ∙ past_left w i.k _ slot a.p i.past i.invariant.1.1 (sym test ∙ t.0.left))
             c.if1.branch,
       ),
     )
@@ -71,7 +71,7 @@ returns c =
     let a = c.before.before.before.before.args in
     let w : ℕ → ℕ = word_at a.order a.file.now in
     let all : i.k ≡ w 10 = omega (arith, c.loop-test.false, i.invariant.0, i.invariant.1.0) in
-    i.invariant.1.1 ∙ ap (pastGrid w a.p) all
+    i.invariant.1.1 ∙ ap (past_grid w a.p) all
 
 pub past-grid-spec : {M : Type 1} → statement M
 past-grid-spec =

@@ -3,14 +3,14 @@
 use mathlib.Core.Path.{sym, ◌∙◌}
 use native.Mathlib.Omega.{arith}
 use borrow.Author.Tests.{eq-eqb, ne_eqb}
-use Rattle.extent_rules.specs.Stretches.{slotExtent}
+use Rattle.extent_rules.specs.Stretches.{slot_extent}
 use borrow.Author.Rules.{rules}
 -- `extent_steps::slot_extent` meets its contract. The size of a grid is read where the slot is not empty: then its first word is inside the file.
 -- Assumes nothing.
 use mathlib.Core.Path.{sym, ◌∙◌}
 use native.Mathlib.Omega.{arith}
 use borrow.Author.Tests.{eq-eqb, ne_eqb}
-use Rattle.extent_rules.specs.Stretches.{slotExtent}
+use Rattle.extent_rules.specs.Stretches.{slot_extent}
 use borrow.Author.Rules.{rules}
 use Rattle.extent_steps.proofs.slot_extent.Statement.{statement}
 use Rattle.extent_steps.proofs.slot_extent.Tie as tie
@@ -22,7 +22,7 @@ read-word-requires : tie.Need-read-word-requires
 read-word-requires c κs = let s = c.before in omega (arith, s.requires.0.room, s.requires.1)
 
 returns : tie.Need-returns
-unfolding slotExtent
+unfolding slot_extent
 returns c = rw (eq-eqb _ _ (sym c.before.read_word.ensures ∙ c.if1.true))
 
 cast-offset : tie.Need-overflow-cast-offset
@@ -39,7 +39,7 @@ add-t9 : tie.Need-overflow-add-t9
 add-t9 c = search rules
 
 returns-2 : tie.Need-returns-2
-unfolding slotExtent
+unfolding slot_extent
 returns-2 c = rw (c.read-word2.ensures, ← c.before.before.read_word.ensures, ne_eqb _ _ c.before.if1.false)
 
 pub slot-extent-spec : {M : Type 1} → statement M

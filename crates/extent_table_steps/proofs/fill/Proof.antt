@@ -45,10 +45,10 @@ use Rattle.endian_rules.specs.declared.Order.{Order}
 use Rattle.endian_rules.specs.Words.{word_at}
 use Rattle.endian_rules.specs.contracts.Order as O
 use Rattle.lists.specs.Lists.{list_of, over}
-use Rattle.lists.proofs.Filled.{filled-length, filled_more, over-listOf}
+use Rattle.lists.proofs.Filled.{filled_length, filled_more, over-list_of}
 use Rattle.extent_rules.specs.declared.Extent.{Extent}
-use Rattle.extent_rules.specs.Stretches.{noWords, extentEnd}
-use Rattle.extent_rules.specs.Steps.{GridAccepted, directoryExtent, runAfter, nthRun}
+use Rattle.extent_rules.specs.Stretches.{no_words, extent_end}
+use Rattle.extent_rules.specs.Steps.{GridAccepted, directory_extent, run_after, nth_run}
 use Rattle.extent_rules.proofs.Runs.{run_inside}
 use Rattle.extent_rules.specs.contracts.Extent as X
 use Rattle.extent_steps.specs.contracts.directory_extent as start
@@ -58,14 +58,14 @@ use Rattle.extent_steps.specs.contracts.run_after as step
 use Rattle.extent_steps.proofs.run_after.Symbol as step-def
 use Rattle.extent_steps.proofs.run_after.Met as step-met
 use Rattle.walks.proofs.Again.{closes_as}
-use Rattle.walks.proofs.Calls.{call-answered}
-use Rattle.extent_table_steps.proofs.Extents.{extent-value, extent-values, extent-tells, lawful, makes, ToldExtent, order_value, makes-order, an-order}
+use Rattle.walks.proofs.Calls.{call_answered}
+use Rattle.extent_table_steps.proofs.Extents.{extent-value, extent_values, extent_tells, lawful, makes, ToldExtent, order-value, makes_order, an_order}
 use Rattle.walks.proofs.Contracts.{Contracted}
 use Rattle.walks.proofs.Known.{Parameter, number, by_value, seen, held, knowns, stays, Related, typed}
 use Rattle.walks.proofs.Locals.{Addresses, env, Holding, empty, holds, cell, cells, starts, frees_all, at}
 use Rattle.walks.proofs.Proved.{Finished, proved}
 use Rattle.walks.proofs.Slices.{member}
-use Rattle.walks.proofs.Loops.{behind-first, Upto, Nearer, nearer-wf, Turned}
+use Rattle.walks.proofs.Loops.{behind-first, Upto, Nearer, nearer_wf, Turned}
 use Rattle.extent_table_steps.specs.contracts.fill as self
 use Rattle.extent_table_steps.proofs.fill.Code as code
 use Rattle.extent_table_steps.proofs.fill.Code.Mir as Mir
@@ -81,15 +81,15 @@ rest = Mir.t-4
 
 -- the table, the file, the order, and how many places are filled
 abbrev params : List (Parameter 2)
-params = held 0 tt X.the_row ∷ seen 1 tt u8 ∷ by_value an-order ∷ by_value (number w64) ∷ []
+params = held 0 tt X.the_row ∷ seen 1 tt u8 ∷ by_value an_order ∷ by_value (number w64) ∷ []
 
 -- the runs, at the start and a step further
-first_run : (o : Order) (f : List ℕ) → directoryExtent o f ≡ nthRun o f 0
-unfolding nthRun
+first_run : (o : Order) (f : List ℕ) → directory_extent o f ≡ nth_run o f 0
+unfolding nth_run
 first_run o f = refl
 
-next-run : (o : Order) (f : List ℕ) (i : ℕ) → runAfter (word_at o f) (length f / 4) (extentEnd (nthRun o f i)) ≡ nthRun o f (i + 1)
-unfolding nthRun
+next-run : (o : Order) (f : List ℕ) (i : ℕ) → run_after (word_at o f) (length f / 4) (extent_end (nth_run o f i)) ≡ nth_run o f (i + 1)
+unfolding nth_run
 next-run o f i = rw add-one
 
 -- nothing is filled
@@ -148,7 +148,7 @@ module _ {M : Type 1} {𝓤 : Ura M} (𝓛 : Logic 𝓤) (mem : Memory → SProp
   room : Room X.the_row (length ys)
   room = are.0.0.1
 
-  order_is : Is O.the_row order (order_value order ∷ [])
+  order_is : Is O.the_row order (order-value order ∷ [])
   order_is = are.1.1.0
 
   n-fits : n < 2 ^ 64
@@ -170,7 +170,7 @@ module _ {M : Type 1} {𝓤 : Ura M} (𝓛 : Logic 𝓤) (mem : Memory → SProp
   fv = slice_val file.ref_ptr (length file.now)
 
   abbrev ov : Val
-  ov = order_value order
+  ov = order-value order
 
   abbrev vals : Vals self.signature κs
   vals = (xv ∷ [], (fv ∷ [], (ov ∷ [], (vint w64 n ∷ [], tt))))
@@ -180,16 +180,16 @@ module _ {M : Type 1} {𝓤 : Ura M} (𝓛 : Logic 𝓤) (mem : Memory → SProp
 
   -- the runs, and the table with the first i places filled
   abbrev cur : ℕ → Extent
-  cur i = nthRun order file.now i
+  cur i = nth_run order file.now i
 
   abbrev so_far : ℕ → List Extent
   so_far i = list_of (λ j. cur (suc j)) i ++ past i ys
 
   same : (i : ℕ) → i ≤ n → length (so_far i) ≡ length ys
-  same i h = filled-length (λ j. cur (suc j)) i ys (omega (arith, within))
+  same i h = filled_length (λ j. cur (suc j)) i ys (omega (arith, within))
 
   next-filled : (i : ℕ) → i < n → set (so_far i) i (cur (i + 1)) ≡ so_far (i + 1)
-  next-filled i h = ap (λ (k : ℕ). set (so_far i) i (cur k)) (add-one i) ∙ filled_more (λ j. cur (suc j)) i ys noWords (omega (arith, h, within))
+  next-filled i h = ap (λ (k : ℕ). set (so_far i) i (cur k)) (add-one i) ∙ filled_more (λ j. cur (suc j)) i ys no_words (omega (arith, h, within))
 
   -- ---- the calls: each is passed the file, which is there again afterwards
   abbrev OwnF : Fml
@@ -212,9 +212,9 @@ module _ {M : Type 1} {𝓤 : Ura M} (𝓛 : Logic 𝓤) (mem : Memory → SProp
 
   asks-start : ent 𝓤 (mean 𝓛 File) (C start-def.name (fv ∷ ov ∷ []) (λ u. mean 𝓛 (Ran 0 u)))
   asks-start =
-      passes (suffices ! _ (call-answered 𝓛 C fm start.ended (start.clauses 𝓛 mem run) to_start (directoryExtent order file.now) (λ r e. id⊢ 𝓤 _)
-      extent-values extent-tells (lawful 𝓛) (cur 0) (first_run order file.now) (sem 𝓛 OwnF) start-def.name Known-start (id⊢ 𝓤 _)) $
-      nothing ! $ owned ! O.the_row (Is O.the_row) (makes-order 𝓛) order _ order_is $ fjoin ! $ move ! (1 ∷ 0 ∷ []) $ fjoin ! $ move ! (1 ∷ 0 ∷ []) $ done !)
+      passes (suffices ! _ (call_answered 𝓛 C fm start.ended (start.clauses 𝓛 mem run) to_start (directory_extent order file.now) (λ r e. id⊢ 𝓤 _)
+      extent_values extent_tells (lawful 𝓛) (cur 0) (first_run order file.now) (sem 𝓛 OwnF) start-def.name Known-start (id⊢ 𝓤 _)) $
+      nothing ! $ owned ! O.the_row (Is O.the_row) (makes_order 𝓛) order _ order_is $ fjoin ! $ move ! (1 ∷ 0 ∷ []) $ fjoin ! $ move ! (1 ∷ 0 ∷ []) $ done !)
 
   module _ (i : ℕ) (l : i < n) (is : Is X.the_row (cur i) (extent-value (cur i) ∷ [])) where
     abbrev to_step : (Stepping 𝓛 mem run).Ghost
@@ -223,10 +223,10 @@ module _ {M : Type 1} {𝓤 : Ura M} (𝓛 : Logic 𝓤) (mem : Memory → SProp
     asks-step : ent 𝓤 (mean 𝓛 File) (C step-def.name (fv ∷ ov ∷ extent-value (cur i) ∷ []) (λ u. mean 𝓛 (Ran (i + 1) u)))
     asks-step =
         let ok : GridAccepted order file.now = asked.1 (omega (arith, l)) in
-        passes (suffices ! _ (call-answered 𝓛 C fm step.ended (step.clauses 𝓛 mem run) to_step
-        (runAfter (word_at order file.now) (length file.now / 4) (extentEnd (cur i))) (λ r e. id⊢ 𝓤 _) extent-values extent-tells (lawful 𝓛)
+        passes (suffices ! _ (call_answered 𝓛 C fm step.ended (step.clauses 𝓛 mem run) to_step
+        (run_after (word_at order file.now) (length file.now / 4) (extent_end (cur i))) (λ r e. id⊢ 𝓤 _) extent_values extent_tells (lawful 𝓛)
         (cur (i + 1)) (next-run order file.now i) (sem 𝓛 OwnF) step-def.name Known-step (fact_i 𝓤 _ (emp 𝓤) (ok, run_inside order file.now ok i))) $
-        nothing ! $ owned ! X.the_row (Is X.the_row) (makes 𝓛) (cur i) _ is $ fjoin ! $ owned ! O.the_row (Is O.the_row) (makes-order 𝓛) order _ order_is $
+        nothing ! $ owned ! X.the_row (Is X.the_row) (makes 𝓛) (cur i) _ is $ fjoin ! $ owned ! O.the_row (Is O.the_row) (makes_order 𝓛) order _ order_is $
         fjoin ! $ move ! (1 ∷ 0 ∷ []) $ fjoin ! $ move ! (1 ∷ 0 ∷ []) $ done !)
 
   -- ---- the loop
@@ -251,7 +251,7 @@ module _ {M : Type 1} {𝓤 : Ura M} (𝓛 : Logic 𝓤) (mem : Memory → SProp
       qed 𝓛 (‵ (Own (so_far i)) ∷ ‵ (flft κ q) ∷ File ∷ []) ∵
       suffices ! _ (ends_at 𝓛 self.ended (stays params) (self.clauses 𝓛 mem run) ((κs, qs, tt, a, vals), tt) vunit tt
       (so_far i, (tt, (tt, (tt, tt)))) (same i h, (tt, (tt, (tt, tt))))) $
-      says ! (ap so_far e ∙ sym (over-listOf (λ j. cur (suc j)) n ys)) $
+      says ! (ap so_far e ∙ sym (over-list_of (λ j. cur (suc j)) n ys)) $
       move ! (2 ∷ []) $ split ! $ move ! (3 ∷ 0 ∷ []) $ join ! $ frame ! $ drop ! $ nothing ! $ nothing ! $ fjoin ! $ nothing ! $ fjoin ! $ nothing ! $ fjoin ! $
       move ! (1 ∷ 0 ∷ []) $ fjoin ! $ frame ! $ feq_i ! (List Val) (vunit ∷ []) (vunit ∷ []) refl $ done !
 
@@ -282,15 +282,15 @@ module _ {M : Type 1} {𝓤 : Ura M} (𝓛 : Logic 𝓤) (mem : Memory → SProp
         skips ! $ exec ! C 𝓣.Λ En more (any_q (Ends i)) $
         use1 𝓛 (raw (C step-def.name (fv ∷ ov ∷ extent-value (cur i.0) ∷ []) (λ u. mean 𝓛 (Ran (i.0 + 1) u)))) (asks-step i.0 lt i.1.1) $
         calls ! fm (Ran (i.0 + 1)) (and_then ! (at ! 9 refl) (and_then ! (at ! 11 refl) (and_then ! (at ! 15 refl) (no_more !)))) (λ u. await ! tt $ learn ! (λ told.
-        land ! (from ! (stop !)) (store ! 15 refl told.typed.0) $ rewrite ! 15 (cell 𝓤 H En 5) (ap only told.is-value) refl $
+        land ! (from ! (stop !)) (store ! 15 refl told.typed.0) $ rewrite ! 15 (cell 𝓤 H En 5) (ap only told.is_value) refl $
         assigns ! (bin ! (at ! 17 refl) (lit ! tt) (record { fits = far })) (from ! (stop !)) (init ! 21 refl (tt, record { fits = far })) $
         assigns ! (bin ! (member ! 7 0 refl refl refl) (at ! 21 refl) tt) (from ! (stop !)) (init ! 23 refl (tt, tt)) $
         rewrite ! 23 (λ (p : ℕ). cell 𝓤 H En 9 (vptr b p)) (sym (place_is 16 o i.0)) refl $
-        move ! (1 ∷ []) $ elem_out ! X.the_row (Is X.the_row) (shows 𝓛 X.the_row) extent-values extent-tells full_share (so_far i.0) i.0 noWords b o in_table (λ _.
+        move ! (1 ∷ []) $ elem_out ! X.the_row (Is X.the_row) (shows 𝓛 X.the_row) extent_values extent_tells full_share (so_far i.0) i.0 no_words b o in_table (λ _.
         -- [table[i]; what it owns; the others; the file; the rest of the open table, 3 entries; _0; …]: local j stands at 7 + 2 · j
         assigns ! (of_opd ! (at ! 17 refl)) (from ! (hop ! (look ! 25 refl) (stop !))) (store_raw ! 0 refl ((lawful 𝓛).typed (cur (i.0 + 1)) _ told.is).0) $
         move ! (1 ∷ []) $ drop ! $ owned ! X.the_row (Is X.the_row) (makes 𝓛) (cur (i.0 + 1)) _ told.is $ move ! (1 ∷ 0 ∷ []) $
-        elem_put ! X.the_row full_share (so_far i.0) i.0 (cur (i.0 + 1)) (extent-values (cur (i.0 + 1))) b o in_table $
+        elem_put ! X.the_row full_share (so_far i.0) i.0 (cur (i.0 + 1)) (extent_values (cur (i.0 + 1))) b o in_table $
         rewrite ! 0 (λ (zs : List Extent). ‵ (row X.the_row full_share zs b o)) (next-filled i.0 lt) refl $ move ! (1 ∷ 0 ∷ []) $
         assigns_last ! (bin ! (at ! 17 refl) (lit ! tt) (record { fits = fits })) (from ! (stop !)) (store ! 17 refl (tt, record { fits = fits })) $
         forget ! 19 refl $ forget ! 21 refl $ forget ! 23 refl $
@@ -313,9 +313,9 @@ module _ {M : Type 1} {𝓤 : Ura M} (𝓛 : Logic 𝓤) (mem : Memory → SProp
       rewrite ! 0 (λ (zs : List Extent). ‵ (row X.the_row full_share zs b o)) (first-filled (λ j. cur (suc j)) ys) refl $ move ! (4 ∷ []) $
       use1 𝓛 (raw (C start-def.name (fv ∷ ov ∷ []) (λ u. mean 𝓛 (Ran 0 u)))) asks-start $
       calls ! fm (Ran 0) (and_then ! (at ! 9 refl) (and_then ! (at ! 11 refl) (no_more !))) (λ u. await ! tt $ learn ! (λ told.
-      land ! (from ! (stop !)) (init ! 15 refl told.typed.0) $ rewrite ! 15 (cell 𝓤 H (En l) 5) (ap only told.is-value) refl $
+      land ! (from ! (stop !)) (init ! 15 refl told.typed.0) $ rewrite ! 15 (cell 𝓤 H (En l) 5) (ap only told.is_value) refl $
       assigns ! (of_opd ! (lit ! tt)) (from ! (stop !)) (init ! 17 refl (tt, record { fits = lit< tt })) $
-      first ! $ blocks ! $ loops ! 𝓣 Later (nearer-wf n (λ i. Is X.the_row (cur i) (extent-value (cur i) ∷ []))) (At l) (turns l) (0, (zero-le, told.is)))))
+      first ! $ blocks ! $ loops ! 𝓣 Later (nearer_wf n (λ i. Is X.the_row (cur i) (extent-value (cur i) ∷ []))) (At l) (turns l) (0, (zero-le, told.is)))))
 
 pub fill_spec : {M : Type 1} → statement M
 unfolding code.routine tables_of
@@ -327,5 +327,5 @@ fill_spec 𝓤 𝓛 𝓜 𝓡 =
     (λ κs qs a g are. needs 𝓤 _ _ (λ asked. walk 𝓛 mem run (tables_of 𝓤 𝓛.H 𝓜 (tables 𝓤 𝓛.H 𝓜 𝓡 code.env))
     (cited 𝓤 𝓛.H (Starting 𝓛 mem run) 𝓜 𝓡 code.env start-def.name start-def.routine code.calls-extent-steps::directory-extent
     (start-met.met 𝓤 𝓛 𝓜 𝓡))
-    (cited 𝓤 𝓛.H (Stepping 𝓛 mem run) 𝓜 𝓡 code.env step-def.name step-def.routine code.calls-extent-steps::run-after
+    (cited 𝓤 𝓛.H (Stepping 𝓛 mem run) 𝓜 𝓡 code.env step-def.name step-def.routine code.calls-extent-steps::run_after_lem
     (step-met.met 𝓤 𝓛 𝓜 𝓡)) κs qs a are asked))

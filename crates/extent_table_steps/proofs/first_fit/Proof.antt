@@ -44,22 +44,22 @@ use denote.Triple.Entry.{Args, Vals, on_entry}
 use denote.Triple.Table.{cited}
 use denote.Triple.Walked.{says, ends_at}
 use Rattle.extent_rules.specs.declared.Extent.{Extent}
-use Rattle.extent_rules.specs.Stretches.{noWords}
-use Rattle.extent_rules.specs.Rooms.{lesser, firstFitting, searched}
+use Rattle.extent_rules.specs.Stretches.{no_words}
+use Rattle.extent_rules.specs.Rooms.{lesser, first_fitting, searched}
 use Rattle.extent_rules.specs.contracts.Extent as X
 use Rattle.extent_rules.proofs.Extent.TheLaws as X'
 use Rattle.extent_rules.proofs.Fit.{lesser-within}
 use Rattle.extent_steps.specs.contracts.first_fitting as pick
 use Rattle.extent_steps.proofs.first_fitting.Symbol as pick-def
 use Rattle.extent_steps.proofs.first_fitting.Met as pick-met
-use Rattle.walks.proofs.Calls.{call-answered, ValueIs}
-use Rattle.extent_table_steps.proofs.Extents.{extent-value, extent-values, extent-tells, lawful, makes, ToldExtent}
+use Rattle.walks.proofs.Calls.{call_answered, ValueIs}
+use Rattle.extent_table_steps.proofs.Extents.{extent-value, extent_values, extent_tells, lawful, makes, ToldExtent}
 use Rattle.walks.proofs.Contracts.{Contracted}
 use Rattle.walks.proofs.Known.{Parameter, number, by_value, seen, knowns, stays, Related, typed}
 use Rattle.walks.proofs.Locals.{Addresses, env, Holding, empty, holds, cell, cells, starts, frees_all, at}
 use Rattle.walks.proofs.Proved.{Finished, proved}
 use Rattle.walks.proofs.Slices.{member}
-use Rattle.walks.proofs.Loops.{behind-first, Upto, Nearer, nearer-wf, Turned}
+use Rattle.walks.proofs.Loops.{behind-first, Upto, Nearer, nearer_wf, Turned}
 use Rattle.extent_table_steps.specs.contracts.lesser as least
 use Rattle.extent_table_steps.proofs.lesser.Symbol as least-def
 use Rattle.extent_table_steps.proofs.lesser.Met as least-met
@@ -81,16 +81,16 @@ abbrev params : List (Parameter 1)
 params = seen 0 tt X.the_row ∷ by_value (number w64) ∷ by_value (number w64) ∷ []
 
 -- the search, at the start and a step further
-first_found : (ys : List Extent) (need : ℕ) → noWords ≡ searched ys need 0
+first-found : (ys : List Extent) (need : ℕ) → no_words ≡ searched ys need 0
 unfolding searched
-first_found ys need = refl
+first-found ys need = refl
 
-next-found : (ys : List Extent) (need i : ℕ) → firstFitting need (searched ys need i) (get_or ys i noWords) ≡ searched ys need (i + 1)
+next-found : (ys : List Extent) (need i : ℕ) → first_fitting need (searched ys need i) (get_or ys i no_words) ≡ searched ys need (i + 1)
 unfolding searched
 next-found ys need i = rw add-one
 
-none_is : Is X.the_row noWords (extent-value noWords ∷ [])
-none_is = LL.owes X.the_type X'.the_laws noWords ((refl, lit< tt), ((refl, lit< tt), tt))
+none_is : Is X.the_row no_words (extent-value no_words ∷ [])
+none_is = LL.owes X.the_type X'.the_laws no_words ((refl, lit< tt), ((refl, lit< tt), tt))
 
 -- the contracts of `extent_steps::first_fitting` and `lesser`
 module _ {M : Type 1} {𝓤 : Ura M} (𝓛 : Logic 𝓤) (mem : Memory → SProp 𝓤) (run : Routine → Fun 𝓤) where
@@ -168,7 +168,7 @@ module _ {M : Type 1} {𝓤 : Ura M} (𝓛 : Logic 𝓤) (mem : Memory → SProp
 
   asks-least : ent 𝓤 (emp 𝓤) (C least-def.name (vint w64 count ∷ vint w64 (length ys) ∷ []) (λ u. mean 𝓛 (Counted u)))
   asks-least =
-      qed 𝓛 [] ∵ suffices ! _ (call-answered 𝓛 C fm least.ended (least.clauses 𝓛 mem run) to-least n (λ r e. id⊢ 𝓤 _) (uint_vals w64) (uint_Tells w64)
+      qed 𝓛 [] ∵ suffices ! _ (call_answered 𝓛 C fm least.ended (least.clauses 𝓛 mem run) to-least n (λ r e. id⊢ 𝓤 _) (uint_vals w64) (uint_Tells w64)
       (uint_Lawful 𝓛 w64) n refl (emp 𝓤) least-def.name known-least (id⊢ 𝓤 _)) $
       nothing ! $ nothing ! $ owned ! usize (Is usize) (uint_Makes 𝓛 w64) (length ys) _ (refl, room.0) $ fjoin ! $
       owned ! usize (Is usize) (uint_Makes 𝓛 w64) count _ are.1.0 $ fjoin ! $ nothing ! $ done !
@@ -178,15 +178,15 @@ module _ {M : Type 1} {𝓤 : Ura M} (𝓛 : Logic 𝓤) (mem : Memory → SProp
   Chosen i u = later (given (ToldExtent (found i) u) (‵ ftrue ⊛ ‵ ftrue))
 
   -- the call, which is passed values only
-  module _ (i : ℕ) (is : Is X.the_row (found i) (extent-value (found i) ∷ [])) (ie : Is X.the_row (get_or ys i noWords) (extent-value (get_or ys i noWords) ∷ [])) where
+  module _ (i : ℕ) (is : Is X.the_row (found i) (extent-value (found i) ∷ [])) (ie : Is X.the_row (get_or ys i no_words) (extent-value (get_or ys i no_words) ∷ [])) where
     abbrev to-pick : (Choosing 𝓛 mem run).Ghost
-    to-pick = ((tt, tt, tt, (need, (found i, (get_or ys i noWords, tt))), (vint w64 need ∷ [], (extent-value (found i) ∷ [], (extent-value (get_or ys i noWords) ∷ [], tt)))), tt)
+    to-pick = ((tt, tt, tt, (need, (found i, (get_or ys i no_words, tt))), (vint w64 need ∷ [], (extent-value (found i) ∷ [], (extent-value (get_or ys i no_words) ∷ [], tt)))), tt)
 
-    asks-pick : ent 𝓤 (emp 𝓤) (C pick-def.name (vint w64 need ∷ extent-value (found i) ∷ extent-value (get_or ys i noWords) ∷ []) (λ u. mean 𝓛 (Chosen (i + 1) u)))
+    asks-pick : ent 𝓤 (emp 𝓤) (C pick-def.name (vint w64 need ∷ extent-value (found i) ∷ extent-value (get_or ys i no_words) ∷ []) (λ u. mean 𝓛 (Chosen (i + 1) u)))
     asks-pick =
-        qed 𝓛 [] ∵ suffices ! _ (call-answered 𝓛 C fm pick.ended (pick.clauses 𝓛 mem run) to-pick (firstFitting need (found i) (get_or ys i noWords))
-        (λ r e. id⊢ 𝓤 _) extent-values extent-tells (lawful 𝓛) (found (i + 1)) (next-found ys need i) (emp 𝓤) pick-def.name known-pick (id⊢ 𝓤 _)) $
-        nothing ! $ nothing ! $ owned ! X.the_row (Is X.the_row) (makes 𝓛) (get_or ys i noWords) _ ie $ fjoin ! $
+        qed 𝓛 [] ∵ suffices ! _ (call_answered 𝓛 C fm pick.ended (pick.clauses 𝓛 mem run) to-pick (first_fitting need (found i) (get_or ys i no_words))
+        (λ r e. id⊢ 𝓤 _) extent_values extent_tells (lawful 𝓛) (found (i + 1)) (next-found ys need i) (emp 𝓤) pick-def.name known-pick (id⊢ 𝓤 _)) $
+        nothing ! $ nothing ! $ owned ! X.the_row (Is X.the_row) (makes 𝓛) (get_or ys i no_words) _ ie $ fjoin ! $
         owned ! X.the_row (Is X.the_row) (makes 𝓛) (found i) _ is $ fjoin ! $
         owned ! usize (Is usize) (uint_Makes 𝓛 w64) need _ are.1.1.0 $ fjoin ! $ nothing ! $ done !
 
@@ -239,17 +239,17 @@ module _ {M : Type 1} {𝓤 : Ura M} (𝓛 : Logic 𝓤) (mem : Memory → SProp
         assigns ! (bin ! (at ! 14 refl) (lit ! tt) (record { fits = far })) (from ! (stop !)) (init ! 20 refl (tt, record { fits = far })) $
         assigns ! (bin ! (member ! 4 0 refl refl refl) (at ! 20 refl) tt) (from ! (stop !)) (init ! 22 refl (tt, tt)) $
         rewrite ! 22 (λ (p : ℕ). cell 𝓤 H En 10 (vptr b p)) (sym (place_is 16 o i.0)) refl $
-        looks_slice ! tt X.the_row (Is X.the_row) (shows 𝓛 X.the_row) extent-values extent-tells (LL.copy X.the_type X'.the_copy 𝓛) ys b o (λ q'.
-        elem_out ! X.the_row (Is X.the_row) (shows 𝓛 X.the_row) extent-values extent-tells q' ys i.0 noWords b o in_table (λ ie.
+        looks_slice ! tt X.the_row (Is X.the_row) (shows 𝓛 X.the_row) extent_values extent_tells (LL.copy X.the_type X'.the_copy 𝓛) ys b o (λ q'.
+        elem_out ! X.the_row (Is X.the_row) (shows 𝓛 X.the_row) extent_values extent_tells q' ys i.0 no_words b o in_table (λ ie.
         -- [table[i]; what it owns; the others; what closes the table; the shared table; _0; …]: local j stands at 5 + 2 · j
         assigns ! (of_opd ! (load ! (from ! (hop ! (look ! 25 refl) (stop !))) (look_raw ! 0 refl))) (from ! (stop !))
-        (init ! 27 refl ((lawful 𝓛).typed (get_or ys i.0 noWords) _ ie).0) $
-        elem_back ! X.the_row q' ys i.0 noWords (extent-values (get_or ys i.0 noWords)) b o in_table $ shuts_slice ! tt X.the_row q' ys b o $ move ! (1 ∷ 0 ∷ []) $
-        use0 𝓛 (raw (C pick-def.name (vint w64 need ∷ extent-value (found i.0) ∷ extent-value (get_or ys i.0 noWords) ∷ []) (λ u. mean 𝓛 (Chosen (i.0 + 1) u))))
+        (init ! 27 refl ((lawful 𝓛).typed (get_or ys i.0 no_words) _ ie).0) $
+        elem_back ! X.the_row q' ys i.0 no_words (extent_values (get_or ys i.0 no_words)) b o in_table $ shuts_slice ! tt X.the_row q' ys b o $ move ! (1 ∷ 0 ∷ []) $
+        use0 𝓛 (raw (C pick-def.name (vint w64 need ∷ extent-value (found i.0) ∷ extent-value (get_or ys i.0 no_words) ∷ []) (λ u. mean 𝓛 (Chosen (i.0 + 1) u))))
         (asks-pick i.0 i.1.1 ie) $
         calls ! fm (Chosen (i.0 + 1)) (and_then ! (at ! 9 refl) (and_then ! (at ! 13 refl) (and_then ! (at ! 25 refl) (no_more !)))) (λ u.
         await ! tt $ learn ! (λ told. drop ! $
-        land ! (from ! (stop !)) (store ! 12 refl told.typed.0) $ rewrite ! 12 (cell 𝓤 H En 5) (ap only told.is-value) refl $
+        land ! (from ! (stop !)) (store ! 12 refl told.typed.0) $ rewrite ! 12 (cell 𝓤 H En 5) (ap only told.is_value) refl $
         assigns_last ! (bin ! (at ! 14 refl) (lit ! tt) (record { fits = fits })) (from ! (stop !)) (store ! 14 refl (tt, record { fits = fits })) $ forget ! 18 refl $
         forget ! 20 refl $ forget ! 22 refl $ forget ! 24 refl $
         again ! Later At i (i.0 + 1, (add-one-le lt, told.is)) (add-one-dec n i.0 lt))))))
@@ -267,12 +267,12 @@ module _ {M : Type 1} {𝓤 : Ura M} (𝓛 : Logic 𝓤) (mem : Memory → SProp
       assigns ! (of_opd ! (member ! 4 1 refl refl refl)) (from ! (stop !)) (init ! 16 refl (tt, record { fits = room.0 })) $
       use0 𝓛 (raw (C least-def.name (vint w64 count ∷ vint w64 (length ys) ∷ []) (λ u. mean 𝓛 (Counted u)))) asks-least $
       calls ! fm Counted (and_then ! (at ! 7 refl) (and_then ! (at ! 17 refl) (no_more !))) (λ u. await ! tt $ learn ! (λ told. drop ! $
-      land ! (from ! (stop !)) (init ! 10 refl told.typed.0) $ rewrite ! 10 (cell 𝓤 H (En l) 4) (ap only told.is-value) refl $
-      assigns ! (agg ! (and_then ! (lit ! tt) (and_then ! (lit ! tt) (no_more !)))) (from ! (stop !)) (init ! 12 refl ((lawful 𝓛).typed noWords _ none_is).0) $
-      rewrite ! 12 (λ (e : Extent). cell 𝓤 H (En l) 5 (extent-value e)) (first_found ys need) refl $
+      land ! (from ! (stop !)) (init ! 10 refl told.typed.0) $ rewrite ! 10 (cell 𝓤 H (En l) 4) (ap only told.is_value) refl $
+      assigns ! (agg ! (and_then ! (lit ! tt) (and_then ! (lit ! tt) (no_more !)))) (from ! (stop !)) (init ! 12 refl ((lawful 𝓛).typed no_words _ none_is).0) $
+      rewrite ! 12 (λ (e : Extent). cell 𝓤 H (En l) 5 (extent-value e)) (first-found ys need) refl $
       assigns ! (of_opd ! (lit ! tt)) (from ! (stop !)) (init ! 14 refl (tt, record { fits = lit< tt })) $
-      first ! $ blocks ! $ loops ! 𝓣 Later (nearer-wf n (λ i. Is X.the_row (found i) (extent-value (found i) ∷ []))) (At l) (turns l)
-      (0, (zero-le, subst (λ (e : Extent). Is X.the_row e (extent-value e ∷ [])) (first_found ys need) none_is)))))
+      first ! $ blocks ! $ loops ! 𝓣 Later (nearer_wf n (λ i. Is X.the_row (found i) (extent-value (found i) ∷ []))) (At l) (turns l)
+      (0, (zero-le, subst (λ (e : Extent). Is X.the_row e (extent-value e ∷ [])) (first-found ys need) none_is)))))
 
 pub first-fit-spec : {M : Type 1} → statement M
 unfolding code.routine tables_of

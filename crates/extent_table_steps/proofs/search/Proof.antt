@@ -38,18 +38,18 @@ use denote.Triple.Walked.{says, needs, ends_at}
 use Rattle.endian_rules.specs.declared.Order.{Order}
 use Rattle.extent_rules.specs.declared.Extent.{Extent}
 use Rattle.extent_rules.specs.Rooms.{lesser, searched}
-use Rattle.extent_rules.specs.Steps.{GridAccepted, runsOver}
+use Rattle.extent_rules.specs.Steps.{GridAccepted, runs_over}
 use Rattle.extent_rules.specs.contracts.Extent as X
-use Rattle.extent_rules.proofs.Fit.{lesser-count}
-use Rattle.walks.proofs.Calls.{Yields, yields, calls-into}
+use Rattle.extent_rules.proofs.Fit.{lesser_count}
+use Rattle.walks.proofs.Calls.{Yields, yields, calls_into}
 use Rattle.walks.proofs.Contracts.{Contracted}
 use Rattle.walks.proofs.Held.{HasSlice, counts}
 use Rattle.walks.proofs.Known.{Parameter, number, by_value, seen, held, knowns, stays, rows, Related, typed}
 use Rattle.walks.proofs.LentCalls.{lends_shr, lends-past}
 use Rattle.walks.proofs.Locals.{env, holding, starts, frees_all, at}
 use Rattle.walks.proofs.Proved.{Finished, proved}
-use Rattle.walks.proofs.Slices.{lends-on}
-use Rattle.extent_table_steps.proofs.Extents.{extent-value, extent-tells, lawful, makes, extent-told, order_value, an-order}
+use Rattle.walks.proofs.Slices.{lends_on}
+use Rattle.extent_table_steps.proofs.Extents.{extent-value, extent_tells, lawful, makes, extent_told, order-value, an_order}
 use Rattle.extent_table_steps.specs.contracts.fill as fill
 use Rattle.extent_table_steps.proofs.fill.Symbol as fill-def
 use Rattle.extent_table_steps.proofs.fill.Symbol.{name as #fill}
@@ -65,7 +65,7 @@ use Rattle.extent_table_steps.proofs.search.Statement.{statement}
 
 -- the table, the file, the order, how many places are filled, and how many words are wanted
 abbrev params : List (Parameter 2)
-params = held 0 tt X.the_row ∷ seen 1 tt u8 ∷ by_value an-order ∷ by_value (number w64) ∷ by_value (number w64) ∷ []
+params = held 0 tt X.the_row ∷ seen 1 tt u8 ∷ by_value an_order ∷ by_value (number w64) ∷ by_value (number w64) ∷ []
 
 -- the contracts of `fill` and `first_fit`
 module _ {M : Type 1} {𝓤 : Ura M} (𝓛 : Logic 𝓤) (mem : Memory → SProp 𝓤) (run : Routine → Fun 𝓤) where
@@ -99,7 +99,7 @@ module _ (κs : Lfts 2) (a : Args self.signature κs) where
   fv = only (shr_slice_vals file)
 
   abbrev vals : Vals self.signature κs
-  vals = (tv ∷ [], (fv ∷ [], (order_value order ∷ [], (vint w64 n ∷ [], (vint w64 need ∷ [], tt)))))
+  vals = (tv ∷ [], (fv ∷ [], (order-value order ∷ [], (vint w64 n ∷ [], (vint w64 need ∷ [], tt)))))
 
   -- ---- the calls that the code makes, where Z is what is wanted of the function's answer
   module _ {M : Type 1} (𝓤 : Ura M) (H : Heap 𝓤) (C : Calls 𝓤 H) (Z : Val → SProp 𝓤) where
@@ -107,22 +107,22 @@ module _ (κs : Lfts 2) (a : Args self.signature κs) where
     Fits = C #fit (tv ∷ vint w64 n ∷ vint w64 need ∷ []) (Yields 𝓤 H X.the_row (λ e. Z (extent-value e)))
 
     abbrev Fills : SProp 𝓤
-    Fills = C #fill (tv ∷ fv ∷ order_value order ∷ vint w64 n ∷ []) (Yields 𝓤 H Nothing (λ _. Fits))
+    Fills = C #fill (tv ∷ fv ∷ order-value order ∷ vint w64 n ∷ []) (Yields 𝓤 H Nothing (λ _. Fits))
 
   module _ {M : Type 1} {𝓤 : Ura M} (𝓛 : Logic 𝓤) (C : Calls 𝓤 𝓛.H) (Λ : Loops 𝓤 𝓛.H) (fm : FmC 𝓤 𝓛.H 𝓛.laws C) where
     open 𝓛 use {H}
 
     walk : Related κs (knowns params) a → (Z : Val → SProp 𝓤)
-        → ent 𝓤 (H.⇛ (Fills 𝓤 H C Z)) (WpFn 𝓤 H C Λ code.function (tv ∷ fv ∷ order_value order ∷ vint w64 n ∷ vint w64 need ∷ []) Z)
+        → ent 𝓤 (H.⇛ (Fills 𝓤 H C Z)) (WpFn 𝓤 H C Λ code.function (tv ∷ fv ∷ order-value order ∷ vint w64 n ∷ vint w64 need ∷ []) Z)
     walk are Z =
-        qed 𝓛 (later (raw (Fills 𝓤 H C Z)) ∷ []) ∵ starts 𝓛 ! C Λ code.function (tv ∷ fv ∷ order_value order ∷ vint w64 n ∷ vint w64 need ∷ []) Z
+        qed 𝓛 (later (raw (Fills 𝓤 H C Z)) ∷ []) ∵ starts 𝓛 ! C Λ code.function (tv ∷ fv ∷ order-value order ∷ vint w64 n ∷ vint w64 need ∷ []) Z
         (typed κs 𝓛 (knowns params) a are) (λ l.
         -- [the call; _0; …]: local j stands at 1 + 2 · j
-        await ! tt $ lends-on ! 3 15 17 refl refl refl refl refl refl (tt, tt) refl refl refl (tt, (tt, (record { fits = are.0.0.1.0 }, tt))) $
-        calls-into ! fm 13 Nothing (λ _. vunit) Nothing-Tells (λ _. Fits 𝓤 H C Z)
+        await ! tt $ lends_on ! 3 15 17 refl refl refl refl refl refl (tt, tt) refl refl refl (tt, (tt, (record { fits = are.0.0.1.0 }, tt))) $
+        calls_into ! fm 13 Nothing (λ _. vunit) Nothing-Tells (λ _. Fits 𝓤 H C Z)
         (and_then ! (at ! 17 refl) (and_then ! (at ! 5 refl) (and_then ! (at ! 7 refl) (and_then ! (at ! 9 refl) (no_more !))))) (λ _. refl) (λ _ _. (tt, tt)) (λ _ _.
-        lends-on ! 3 19 21 refl refl refl refl refl refl (tt, tt) refl refl refl (tt, (tt, (record { fits = are.0.0.1.0 }, tt))) $
-        calls-into ! fm 1 X.the_row extent-value extent-tells (λ e. Z (extent-value e)) (and_then ! (at ! 21 refl) (and_then ! (at ! 9 refl) (and_then ! (at ! 11 refl) (no_more !))))
+        lends_on ! 3 19 21 refl refl refl refl refl refl (tt, tt) refl refl refl (tt, (tt, (record { fits = are.0.0.1.0 }, tt))) $
+        calls_into ! fm 1 X.the_row extent-value extent_tells (λ e. Z (extent-value e)) (and_then ! (at ! 21 refl) (and_then ! (at ! 9 refl) (and_then ! (at ! 11 refl) (no_more !))))
         (λ _. refl) (λ e is. ((lawful 𝓛).typed e _ is).0) (λ e is. returns ! (look ! 1 refl) $
         frees_all 𝓛 ! (_ ∷ []) _ (holding (_ ∷ _ ∷ _ ∷ _ ∷ _ ∷ _ ∷ _ ∷ _ ∷ _ ∷ _ ∷ _ ∷ [])) (done !))))
 
@@ -147,14 +147,14 @@ module _ (κs : Lfts 2) (a : Args self.signature κs) where
 
     -- what `fill` says of the table zs that it leaves
     abbrev FilledAs : List Extent → Type 0
-    FilledAs zs = zs ≡ runsOver order file.now n table.now
+    FilledAs zs = zs ≡ runs_over order file.now n table.now
 
     filled : Triple 𝓤 (C #fill) (Filling 𝓛 mem run)
         → ent 𝓤 (⋆ 𝓛 (‵ (Table table.now) ∷ raw (toks 𝓛 1 κs.1 qs.1) ∷ raw (sem 𝓛 File) ∷ []))
-        (H.⇛ (C #fill (tv ∷ fv ∷ order_value order ∷ vint w64 n ∷ []) (Yields 𝓤 H Nothing (λ _.
+        (H.⇛ (C #fill (tv ∷ fv ∷ order-value order ∷ vint w64 n ∷ []) (Yields 𝓤 H Nothing (λ _.
         ex 𝓤 (λ (zs : List Extent). guard 𝓤 (FilledAs zs) (sep 𝓤 (sem 𝓛 (Table zs)) (toks 𝓛 1 κs.1 qs.1)))))))
     filled known = lends-past X.the_row u8 (named 0) κs.0 κs.1.0 qs.0 qs.1.0 table file tv 𝓛 C fm table.now
-        (an-order ∷ number w64 ∷ []) Nothing (fill.clauses 𝓛 mem run) (λ _. (order, (n, tt))) #fill known (order_value order ∷ vint w64 n ∷ []) (λ _. refl)
+        (an_order ∷ number w64 ∷ []) Nothing (fill.clauses 𝓛 mem run) (λ _. (order, (n, tt))) #fill known (order-value order ∷ vint w64 n ∷ []) (λ _. refl)
         (λ _. (are.1.1.0, (are.1.1.1.0, tt))) (λ ν δ. tt) (λ ν δ. fact_i 𝓤 _ (emp 𝓤) asked) (λ r. FilledAs) (λ ν δ r e. id⊢ 𝓤 _)
 
     -- what `first_fit` says of the extent e that it finds in zs
@@ -176,10 +176,10 @@ module _ (κs : Lfts 2) (a : Args self.signature κs) where
         -- [what the table owns; its token; the file's token]
         suffices ! _ (ends_at 𝓛 self.ended (stays params) (self.clauses 𝓛 mem run) ((κs, qs, tt, a, vals), tt) (extent-value e) e
         (zs, (tt, (tt, (tt, (tt, tt))))) (len, (tt, (tt, (tt, (tt, tt)))))) $
-        says ! (ap (λ (x : Extent). (x, zs)) (found ∙ ap (searched zs need) (lesser-count n (length zs) (subst (λ (m : ℕ). n ≤ m) (sym len) asked.0)))
+        says ! (ap (λ (x : Extent). (x, zs)) (found ∙ ap (searched zs need) (lesser_count n (length zs) (subst (λ (m : ℕ). n ≤ m) (sym len) asked.0)))
         ∙ ap (λ (l : List Extent). (searched l need n, l)) eq) $
         move ! (1 ∷ 2 ∷ []) $ join ! $ frame ! $ nothing ! $ nothing ! $ fjoin ! $ nothing ! $ fjoin ! $ nothing ! $ fjoin ! $ nothing ! $ fjoin ! $
-        move ! (1 ∷ 0 ∷ []) $ fjoin ! $ frame ! $ owned ! X.the_row (Is X.the_row) (makes 𝓛) e _ (extent-told e u ie) $ done !)
+        move ! (1 ∷ 0 ∷ []) $ fjoin ! $ frame ! $ owned ! X.the_row (Is X.the_row) (makes 𝓛) e _ (extent_told e u ie) $ done !)
 
     runs-through : Triple 𝓤 (C #fill) (Filling 𝓛 mem run) → Triple 𝓤 (C #fit) (Fitting 𝓛 mem run)
         → ent 𝓤 (on_entry 𝓛 self.signature κs qs a vals) (H.⇛ (Fills 𝓤 H C Post))

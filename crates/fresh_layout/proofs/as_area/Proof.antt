@@ -2,7 +2,7 @@
 -- Assumes nothing.
 use mathlib.Core.Path.{ap}
 use borrow.Author.Rules.{rules}
-use Rattle.area_rules.specs.Opening.{areaSays}
+use Rattle.area_rules.specs.Opening.{area_says}
 use Rattle.area_rules.specs.declared.AreaOpening.TheVariants.{Refused}
 use Rattle.fresh_layout.proofs.as_area.Statement.{statement}
 use Rattle.fresh_layout.proofs.as_area.Tie as tie
@@ -26,10 +26,10 @@ returns : tie.Need-returns
 returns c = rw c.before.layout.given.1
 
 returns-2 : tie.Need-returns-2
-returns-2 c = rw c.before.enum_told.given.1 (ap (λ x. areaSays (Refused x)) c.refused.ensures)
+returns-2 c = rw c.before.enum_told.given.1 (ap (λ x. area_says (Refused x)) c.refused.ensures)
 
 returns-3 : tie.Need-returns-3
-returns-3 c = rw c.before.enum-told2.given.1 (ap (λ x. areaSays (Refused x)) c.refused2.ensures)
+returns-3 c = rw c.before.enum-told2.given.1 (ap (λ x. area_says (Refused x)) c.refused2.ensures)
 
 pub as-area-spec : {M : Type 1} → statement M
 as-area-spec =

@@ -2,7 +2,7 @@
 -- Assumes nothing.
 use mathlib.Core.Path.{ap}
 use borrow.Author.Rules.{rules}
-use Rattle.grid_rules.specs.Opening.{gridSays}
+use Rattle.grid_rules.specs.Opening.{grid_says}
 use Rattle.grid_rules.specs.declared.GridOpening.TheVariants.{Refused}
 use Rattle.fresh_layout.proofs.as_grid.Statement.{statement}
 use Rattle.fresh_layout.proofs.as_grid.Tie as tie
@@ -23,13 +23,13 @@ refused-requires-2 : tie.Need-refused-requires-2
 refused-requires-2 c κs = search rules
 
 returns : tie.Need-returns
-returns c = rw c.before.enum_told.given.1 (ap (λ x. gridSays (Refused x)) c.refused.ensures)
+returns c = rw c.before.enum_told.given.1 (ap (λ x. grid_says (Refused x)) c.refused.ensures)
 
 returns-2 : tie.Need-returns-2
 returns-2 c = rw c.before.layout.given.1
 
 returns-3 : tie.Need-returns-3
-returns-3 c = rw c.before.enum-told2.given.1 (ap (λ x. gridSays (Refused x)) c.refused2.ensures)
+returns-3 c = rw c.before.enum-told2.given.1 (ap (λ x. grid_says (Refused x)) c.refused2.ensures)
 
 pub as-grid-spec : {M : Type 1} → statement M
 as-grid-spec =

@@ -2,7 +2,7 @@
 -- Assumes nothing.
 use mathlib.Core.Path.{ap}
 use borrow.Author.Rules.{rules}
-use Rattle.md_rules.specs.Opening.{mdSays}
+use Rattle.md_rules.specs.Opening.{md_says}
 use Rattle.md_rules.specs.declared.MdOpening.TheVariants.{Refused}
 use Rattle.fresh_layout.proofs.as_md.Statement.{statement}
 use Rattle.fresh_layout.proofs.as_md.Tie as tie
@@ -23,10 +23,10 @@ enum-known-layout : tie.Need-enum-known-layout
 enum-known-layout c = search rules
 
 returns : tie.Need-returns
-returns c = rw c.before.enum_told.given.1 (ap (λ x. mdSays (Refused x)) c.refused.ensures)
+returns c = rw c.before.enum_told.given.1 (ap (λ x. md_says (Refused x)) c.refused.ensures)
 
 returns-2 : tie.Need-returns-2
-returns-2 c = rw c.before.enum-told2.given.1 (ap (λ x. mdSays (Refused x)) c.refused2.ensures)
+returns-2 c = rw c.before.enum-told2.given.1 (ap (λ x. md_says (Refused x)) c.refused2.ensures)
 
 returns-3 : tie.Need-returns-3
 returns-3 c = rw c.before.layout.given.1

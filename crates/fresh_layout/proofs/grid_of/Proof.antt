@@ -2,10 +2,10 @@
 -- Assumes nothing.
 use mathlib.Core.Path.{sym, ap, ◌∙◌}
 use borrow.Author.Rules.{rules}
-use Rattle.grid_rules.specs.Opening.{gridSays}
+use Rattle.grid_rules.specs.Opening.{grid_says}
 use Rattle.grid_rules.specs.declared.GridOpening.TheVariants.{Refused}
-use Rattle.layout_rules.specs.Found.{asGrid}
-use Rattle.layout_rules.proofs.Freshness.{found-told, stale-told}
+use Rattle.layout_rules.specs.Found.{as_grid}
+use Rattle.layout_rules.proofs.Freshness.{found_told, stale_told}
 use Rattle.fresh_layout.proofs.grid_of.Statement.{statement}
 use Rattle.fresh_layout.proofs.grid_of.Tie as tie
 
@@ -21,13 +21,13 @@ refused-requires c κs = search rules
 returns : tie.Need-returns
 returns c =
     let a = c.before.before.before.before.args in
-    c.as-grid.ensures ∙ sym (found-told asGrid a.file.now a.layout c.before.before.is-fresh.ensures c.before.if1.true)
+    c.as-grid.ensures ∙ sym (found_told as_grid a.file.now a.layout c.before.before.is-fresh.ensures c.before.if1.true)
 
 returns-2 : tie.Need-returns-2
 returns-2 c =
     let a = c.before.before.before.before.args in
-    ap (λ r. gridSays (Refused r)) c.refused.ensures
-    ∙ sym (stale-told asGrid a.file.now a.layout c.before.before.is-fresh.ensures c.before.if1.false)
+    ap (λ r. grid_says (Refused r)) c.refused.ensures
+    ∙ sym (stale_told as_grid a.file.now a.layout c.before.before.is-fresh.ensures c.before.if1.false)
 
 pub grid-of-spec : {M : Type 1} → statement M
 grid-of-spec = tie.close (tie.spec is-fresh-requires as-grid-requires refused-requires returns returns-2)

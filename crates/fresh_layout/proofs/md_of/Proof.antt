@@ -2,10 +2,10 @@
 -- Assumes nothing.
 use mathlib.Core.Path.{sym, ap, ◌∙◌}
 use borrow.Author.Rules.{rules}
-use Rattle.md_rules.specs.Opening.{mdSays}
+use Rattle.md_rules.specs.Opening.{md_says}
 use Rattle.md_rules.specs.declared.MdOpening.TheVariants.{Refused}
-use Rattle.layout_rules.specs.Found.{asMd}
-use Rattle.layout_rules.proofs.Freshness.{found-told, stale-told}
+use Rattle.layout_rules.specs.Found.{as_md}
+use Rattle.layout_rules.proofs.Freshness.{found_told, stale_told}
 use Rattle.fresh_layout.proofs.md_of.Statement.{statement}
 use Rattle.fresh_layout.proofs.md_of.Tie as tie
 
@@ -21,13 +21,13 @@ refused-requires c κs = search rules
 returns : tie.Need-returns
 returns c =
     let a = c.before.before.before.before.args in
-    c.as-md.ensures ∙ sym (found-told asMd a.file.now a.layout c.before.before.is-fresh.ensures c.before.if1.true)
+    c.as-md.ensures ∙ sym (found_told as_md a.file.now a.layout c.before.before.is-fresh.ensures c.before.if1.true)
 
 returns-2 : tie.Need-returns-2
 returns-2 c =
     let a = c.before.before.before.before.args in
-    ap (λ r. mdSays (Refused r)) c.refused.ensures
-    ∙ sym (stale-told asMd a.file.now a.layout c.before.before.is-fresh.ensures c.before.if1.false)
+    ap (λ r. md_says (Refused r)) c.refused.ensures
+    ∙ sym (stale_told as_md a.file.now a.layout c.before.before.is-fresh.ensures c.before.if1.false)
 
 pub md-of-spec : {M : Type 1} → statement M
 md-of-spec = tie.close (tie.spec is-fresh-requires as-md-requires refused-requires returns returns-2)

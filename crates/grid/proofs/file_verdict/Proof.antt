@@ -7,7 +7,7 @@ use borrow.Author.Rules.{rules}
 use Rattle.endian_rules.specs.Words.{word_at}
 use Rattle.refusal_rules.specs.Rules.{first}
 use Rattle.refusal_rules.specs.declared.Verdict.TheVariants.{Pass, Fault}
-use Rattle.grid_rules.specs.Rules.{nextFree}
+use Rattle.grid_rules.specs.Rules.{next_free}
 use Rattle.grid_rules.specs.Accepts.{GridRoom}
 use Rattle.grid_rules.proofs.Slots.{head-room}
 use Rattle.grid_rules.proofs.Acceptance.{file-split}
@@ -27,7 +27,7 @@ enum_told c = search rules
 room : (c : tie.After-enum-told)
     → let a = c.before.before.before.before.args in
     let w = word_at a.order a.file.now in
-    GridRoom (length a.file.now) (w 10) (nextFree w)
+    GridRoom (length a.file.now) (w 10) (next_free w)
 room c = head-room _ _ (sym c.before.before.head-verdict.ensures ∙ c.enum_told.given.1)
 
 read-word-requires : tie.Need-read-word-requires

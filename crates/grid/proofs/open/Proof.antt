@@ -3,8 +3,8 @@
 use mathlib.Core.Path.{sym, ◌∙◌}
 use borrow.Author.Rules.{rules}
 use Rattle.refusal_rules.specs.declared.Verdict.TheVariants.{Pass, Fault}
-use Rattle.grid_rules.specs.Opening.{openGrid}
-use Rattle.grid_rules.proofs.Acceptance.{open-split}
+use Rattle.grid_rules.specs.Opening.{open_grid}
+use Rattle.grid_rules.proofs.Acceptance.{open_split}
 use Rattle.grid.proofs.open.Statement.{statement}
 use Rattle.grid.proofs.open.Tie as tie
 
@@ -21,14 +21,14 @@ open-wanted-requires : tie.Need-open-wanted-requires
 open-wanted-requires c κs = sym c.before.before.file-verdict.ensures ∙ c.enum_told.given.1
 
 returns : tie.Need-returns
-unfolding openGrid
-returns c = sym (open-split _ _ _ _ (Fault _) (sym c.before.before.before.file-verdict.ensures ∙ c.before.refusal.given.1))
+unfolding open_grid
+returns c = sym (open_split _ _ _ _ (Fault _) (sym c.before.before.before.file-verdict.ensures ∙ c.before.refusal.given.1))
 
 returns-2 : tie.Need-returns-2
-unfolding openGrid
+unfolding open_grid
 returns-2 c =
     c.open-wanted.ensures
-    ∙ sym (open-split _ _ _ _ Pass (sym c.before.before.before.file-verdict.ensures ∙ c.before.enum_told.given.1))
+    ∙ sym (open_split _ _ _ _ Pass (sym c.before.before.before.file-verdict.ensures ∙ c.before.enum_told.given.1))
 
 pub open_spec : {M : Type 1} → statement M
 open_spec =

@@ -2,7 +2,7 @@
 -- Assumes nothing.
 use borrow.Author.Rules.{rules}
 use Rattle.refusal_rules.specs.Tests.{same_numbers}
-use Rattle.grid_rules.specs.Opening.{sameGrid}
+use Rattle.grid_rules.specs.Opening.{same_grid}
 use Rattle.grid.proofs.same_grid.Statement.{statement}
 use Rattle.grid.proofs.same_grid.Tie as tie
 
@@ -31,7 +31,7 @@ equal-and-requires-5 : tie.Need-equal-and-requires-5
 equal-and-requires-5 c κs = search rules
 
 returns : tie.Need-returns
-unfolding sameGrid same_numbers
+unfolding same_grid same_numbers
 returns c =
     rw (
       c.equal-and5.ensures,

@@ -7,7 +7,7 @@ use native.Mathlib.Numerals.{add-one}
 use native.Mathlib.Omega.{arith}
 use Rattle.endian_rules.specs.Words.{word_at}
 use Rattle.grid_rules.specs.Rules.{shares}
-use Rattle.grid_rules.proofs.Slots.{each-passes, shares_at}
+use Rattle.grid_rules.proofs.Slots.{each_passes, shares_at}
 use Rattle.grid.proofs.shares_word.Statement.{statement}
 use Rattle.grid.proofs.shares_word.Tie as tie
 
@@ -25,7 +25,7 @@ meets-slot-requires : tie.Need-meets-slot-requires invariant-loop decreases-loop
 meets-slot-requires c κs =
     let s = c.before.before.before in
     let w = word_at s.args.order s.args.file.now in
-    let passed = (each-passes w s.args.n s.args.next s.args.k).0 s.requires.1.1 c.before.loop.j c.loop-test.true in
+    let passed = (each_passes w s.args.n s.args.next s.args.k).0 s.requires.1.1 c.before.loop.j c.loop-test.true in
     (s.requires.0, (omega arith, passed))
 
 returns : tie.Need-returns invariant-loop decreases-loop

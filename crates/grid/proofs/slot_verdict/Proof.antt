@@ -5,11 +5,11 @@ use mathlib.Core.Path.{sym, ap, ◌∙◌}
 use native.Mathlib.Omega.{arith}
 use borrow.Author.Rules.{rules}
 use Rattle.endian_rules.specs.Words.{word_at}
-use Rattle.refusal_rules.specs.Rules.{first, firstFault}
+use Rattle.refusal_rules.specs.Rules.{first, first_fault}
 use Rattle.refusal_rules.specs.declared.Verdict.TheVariants.{Pass, Fault}
-use Rattle.grid_rules.specs.Rules.{overlapRule}
+use Rattle.grid_rules.specs.Rules.{overlap_rule}
 use Rattle.grid_rules.specs.Accepts.{FullSlot}
-use Rattle.grid_rules.proofs.Slots.{own-end, empty-slot, full-verdict}
+use Rattle.grid_rules.proofs.Slots.{own_end, empty_slot_lem, full_verdict}
 use Rattle.grid.proofs.slot_verdict.Statement.{statement}
 use Rattle.grid.proofs.slot_verdict.Tie as tie
 
@@ -20,8 +20,8 @@ read-word-requires : tie.Need-read-word-requires
 read-word-requires c κs = search rules
 
 returns : tie.Need-returns
-unfolding firstFault
-returns c = sym (ap firstFault (empty-slot _ _ _ _ (sym c.before.read_word.ensures ∙ c.if1.true)))
+unfolding first_fault
+returns c = sym (ap first_fault (empty_slot_lem _ _ _ _ (sym c.before.read_word.ensures ∙ c.if1.true)))
 
 -- the slot is not empty
 full : (c : tie.Else1) → let a = c.before.before.before.args in FullSlot (word_at a.order a.file.now) a.k
@@ -46,7 +46,7 @@ read-word-requires-2 : tie.Need-read-word-requires-2
 read-word-requires-2 c κs =
     let s = c.before.before.before.before.before.before in
     let w = word_at s.args.order s.args.file.now in
-    let end = own-end w s.args.n s.args.next s.args.k (sym c.before.before.own-verdict.ensures ∙ c.enum_told.given.1) in
+    let end = own_end w s.args.n s.args.next s.args.k (sym c.before.before.own-verdict.ensures ∙ c.enum_told.given.1) in
     omega (arith, end, s.requires.0.whole, c.before.before.before.before.read_word.ensures)
 
 cast-high : tie.Need-overflow-cast-high
@@ -68,10 +68,10 @@ returns-2 : tie.Need-returns-2
 unfolding first
 returns-2 c =
     let own = sym c.before.before.before.own-verdict.ensures ∙ c.before.refusal.given.1 in
-    sym (full-verdict _ _ _ _ (full c.before.before.before.before) (Fault _) own)
+    sym (full_verdict _ _ _ _ (full c.before.before.before.before) (Fault _) own)
 
 returns-3 : tie.Need-returns-3
-unfolding overlapRule first
+unfolding overlap_rule first
 returns-3 c =
     let own = sym c.before.before.before.before.before.own-verdict.ensures ∙ c.before.before.before.enum_told.given.1 in
     rw (
@@ -80,7 +80,7 @@ returns-3 c =
       c.before.before.read-word2.ensures,
       c.before.before.before.before.before.before.before.read_word.ensures,
     )
-    (sym (full-verdict _ _ _ _ (full c.before.before.before.before.before.before) Pass own))
+    (sym (full_verdict _ _ _ _ (full c.before.before.before.before.before.before) Pass own))
 
 pub slot-verdict-spec : {M : Type 1} → statement M
 slot-verdict-spec =

@@ -1,7 +1,7 @@
 -- `grid_copies::copy_columns` meets its contract: the columns are lines of words at equal distances, all inside the file.
 -- Assumes nothing.
 use native.Mathlib.Omega.{arith}
-use Rattle.grid_part_rules.proofs.Lines.{copied-same, columns-lines, columns-copyable}
+use Rattle.grid_part_rules.proofs.Lines.{copied-same, columns-lines, columns_copyable}
 use borrow.Author.Rules.{rules}
 use Rattle.grid_copies.proofs.copy_columns.Statement.{statement}
 use Rattle.grid_copies.proofs.copy_columns.Tie as tie
@@ -29,7 +29,7 @@ cast-t12 c = search rules
 
 copy-lines-requires : tie.Need-copy-lines-requires
 copy-lines-requires c κs =
-    let of = columns-copyable _ _ c.before.before.before.before.before.before.requires in
+    let of = columns_copyable _ _ c.before.before.before.before.before.before.requires in
     (of.0, (of.1.0, λ k i line word. omega (arith, of.1.1 k i line word)))
 
 same_length : tie.Need-same-length

@@ -25,11 +25,11 @@ mul-t8 : tie.Need-overflow-mul-t8
 mul-t8 c = search rules
 
 returns : tie.Need-returns
-returns c = rw (← c.before.before.before.grid-of.ensures, c.before.refusal.given.1)
+returns c = rw (← c.before.before.before.grid_of_lem.ensures, c.before.refusal.given.1)
 
 returns-2 : tie.Need-returns-2
 returns-2 c =
-    rw (← c.before.before.before.before.grid-of.ensures, c.before.before.l.given.1)
+    rw (← c.before.before.before.before.grid_of_lem.ensures, c.before.before.l.given.1)
     (ap (λ (n : ℕ). gives (span n 256)) (omega arith))
 
 pub header-span-spec : {M : Type 1} → statement M

@@ -3,7 +3,7 @@
 use mathlib.Core.Path.{◌≡◌, ap, ap₂, ◌∙◌}
 use mir.Syntax.{w32}
 use mir.Val.{to_z, of_z}
-use Rattle.store_rules.specs.Stores.{storePoint}
+use Rattle.store_rules.specs.Stores.{store_point}
 use borrow.Author.Rules.{rules}
 use Rattle.grid_correction.proofs.correct_point.Statement.{statement}
 use Rattle.grid_correction.proofs.correct_point.Tie as tie
@@ -38,7 +38,7 @@ returns-2 c =
     let l = c.before.before.before.before.before.before.before.layout.given.0.0 in
     let same : to_z w32 (of_z w32 a.value) ≡ a.value = search rules in
     rw (← c.before.before.before.before.before.before.before.before.before.open-grid.ensures, c.before.before.before.before.before.before.before.layout.given.1)
-    (ap₂ (λ x y. (x, y)) c.before.before.before.before.read-point.ensures (ap (λ p. p.1) (c.before.before.store-point.ensures ∙ ap (storePoint a.file.now l a.row a.column) same)))
+    (ap₂ (λ x y. (x, y)) c.before.before.before.before.read-point.ensures (ap (λ p. p.1) (c.before.before.store-point.ensures ∙ ap (store_point a.file.now l a.row a.column) same)))
 
 pub correct-point-spec : {M : Type 1} → statement M
 correct-point-spec =

@@ -6,7 +6,7 @@ use mir.Val.{to_z, of_z}
 use borrow.Author.Rules.{rules}
 use Rattle.store_theory.specs.Series.{call, done}
 use Rattle.store_theory.proofs.Series.{run_is}
-use Rattle.store_rules.specs.Stores.{storesIn, storePoint}
+use Rattle.store_rules.specs.Stores.{stores_in, store_point}
 use Rattle.grid_correction.proofs.correct_two.Statement.{statement}
 use Rattle.grid_correction.proofs.correct_two.Tie as tie
 
@@ -28,9 +28,9 @@ returns c =
     let same : to_z w32 (of_z w32 x.value) ≡ x.value = search rules in
     let same-2 : to_z w32 (of_z w32 y.value) ≡ y.value = search rules in
     let (told, left) =
-    run_is storesIn
-    (call (one.ensures ∙ ap (storePoint a.file.now a.layout x.row x.column) same)
-    (call (c.before.before.store-point2.ensures ∙ ap (storePoint one.new.0 a.layout y.row y.column) same-2)
+    run_is stores_in
+    (call (one.ensures ∙ ap (store_point a.file.now a.layout x.row x.column) same)
+    (call (c.before.before.store-point2.ensures ∙ ap (store_point one.new.0 a.layout y.row y.column) same-2)
     (done refl))) in
     ap₂ (λ r g. (r, g)) told left
 

@@ -1,9 +1,9 @@
 -- `grid_places::point_verdict` meets its contract: the chain of checks is the table of rules.
 -- Assumes nothing.
 use Rattle.refusal_rules.specs.Rules.{chained}
-use Rattle.refusal_rules.proofs.Tables.{by-table}
-use Rattle.grid_rules.specs.Bounds.{gridBounded}
-use Rattle.grid_rules.specs.Places.{pointRules}
+use Rattle.refusal_rules.proofs.Tables.{by_table}
+use Rattle.grid_rules.specs.Bounds.{grid_bounded}
+use Rattle.grid_rules.specs.Places.{point_rules}
 use borrow.Author.Rules.{rules}
 use Rattle.grid_places.proofs.point_verdict.Statement.{statement}
 use Rattle.grid_places.proofs.point_verdict.Tie as tie
@@ -27,9 +27,9 @@ check-requires-3 : tie.Need-check-requires-3
 check-requires-3 c κs = search rules
 
 returns : tie.Need-returns
-unfolding pointRules gridBounded chained
+unfolding point_rules grid_bounded chained
 returns c =
-    by-table _
+    by_table _
     (rw (
       c.check3.ensures,
       c.before.within2.ensures,

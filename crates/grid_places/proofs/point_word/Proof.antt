@@ -1,7 +1,7 @@
 -- `grid_places::point_word` meets its contract: within bounds the product fits.
 -- Assumes nothing.
 use native.Mathlib.Omega.{arith}
-use Rattle.grid_rules.proofs.Sizes.{points-most}
+use Rattle.grid_rules.proofs.Sizes.{points_most}
 use borrow.Author.Rules.{rules}
 use Rattle.grid_places.proofs.point_word.Statement.{statement}
 use Rattle.grid_places.proofs.point_word.Tie as tie
@@ -16,7 +16,7 @@ cast-before-2 : tie.Need-overflow-cast-before-2
 cast-before-2 c = search rules
 
 mul-before : tie.Need-overflow-mul-before
-mul-before c = omega (arith, points-most c.before.requires.0 c.before.args.column c.before.requires.1.column-to)
+mul-before c = omega (arith, points_most c.before.requires.0 c.before.args.column c.before.requires.1.column_to)
 
 cast-result : tie.Need-overflow-cast-result
 cast-result c = search rules
@@ -27,7 +27,7 @@ add-result c = search rules
 add-result-2 : tie.Need-overflow-add-result-2
 add-result-2 c =
     let s = c.before.before in
-    omega (arith, c.struct-known2.given, points-most s.requires.0 s.args.column s.requires.1.column-to)
+    omega (arith, c.struct-known2.given, points_most s.requires.0 s.args.column s.requires.1.column_to)
 
 sub-result : tie.Need-overflow-sub-result
 sub-result c = search rules
@@ -38,7 +38,7 @@ cast-result-2 c = search rules
 add-result-3 : tie.Need-overflow-add-result-3
 add-result-3 c =
     let s = c.before.before in
-    omega (arith, c.struct-known2.given, s.ranges.row, points-most s.requires.0 s.args.column s.requires.1.column-to)
+    omega (arith, c.struct-known2.given, s.ranges.row, points_most s.requires.0 s.args.column s.requires.1.column_to)
 
 returns : tie.Need-returns
 returns c = search rules

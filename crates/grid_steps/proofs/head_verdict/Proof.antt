@@ -9,32 +9,32 @@ use lib.ListN.{length, take, drop}
 use borrow.Author.Tests.{le-leb, lt-leb, leb-true}
 use borrow.Author.Rules.{rules}
 use Rattle.endian_rules.specs.Words.{word_at}
-use Rattle.refusal_rules.specs.Rules.{rule, judge, first, firstFault, chained}
+use Rattle.refusal_rules.specs.Rules.{rule, judge, first, first_fault, chained}
 use Rattle.refusal_rules.specs.declared.Verdict.{Verdict}
 use Rattle.refusal_rules.specs.declared.Verdict.TheVariants.{Pass, Fault}
-use Rattle.refusal_rules.proofs.Tables.{judge-holds, by-table, pass-hold, joined}
-use Rattle.grid_rules.specs.Rules.{gridHeadRules}
+use Rattle.refusal_rules.proofs.Tables.{judge-holds, by_table, pass_hold, joined}
+use Rattle.grid_rules.specs.Rules.{grid_head_rules}
 use Rattle.grid_steps.proofs.head_verdict.Statement.{statement}
 use Rattle.grid_steps.proofs.head_verdict.Tie as tie
 
 -- the first three rules, which do not read the next free word, and the others after them
-split : (len : ℕ) (w : ℕ → ℕ) (v : Verdict) → firstFault (take 3 (gridHeadRules len w)) ≡ v
-    → firstFault (gridHeadRules len w) ≡ first v (firstFault (drop 3 (gridHeadRules len w)))
-unfolding gridHeadRules
-split len w v e = joined (take 3 (gridHeadRules len w)) (drop 3 (gridHeadRules len w)) v e
+split : (len : ℕ) (w : ℕ → ℕ) (v : Verdict) → first_fault (take 3 (grid_head_rules len w)) ≡ v
+    → first_fault (grid_head_rules len w) ≡ first v (first_fault (drop 3 (grid_head_rules len w)))
+unfolding grid_head_rules
+split len w v e = joined (take 3 (grid_head_rules len w)) (drop 3 (grid_head_rules len w)) v e
 
 -- where they pass, there is room for 12 + n words
-room : (len : ℕ) (w : ℕ → ℕ) → firstFault (take 3 (gridHeadRules len w)) ≡ Pass → 12 + w 10 ≤ len / 4
-unfolding gridHeadRules
-room len w e = leb-true (12 + w 10) (len / 4) (pass-hold (take 3 (gridHeadRules len w)) e).1.1.0
+room : (len : ℕ) (w : ℕ → ℕ) → first_fault (take 3 (grid_head_rules len w)) ≡ Pass → 12 + w 10 ≤ len / 4
+unfolding grid_head_rules
+room len w e = leb-true (12 + w 10) (len / 4) (pass_hold (take 3 (grid_head_rules len w)) e).1.1.0
 
 -- what the code's checks of these three say
 early : (c : tie.After-check2)
     → let a = c.before.before.before.before.before.before.args in
-    c.check2.result ≡ firstFault (take 3 (gridHeadRules (length a.file.now) (word_at a.order a.file.now)))
-unfolding gridHeadRules chained first
+    c.check2.result ≡ first_fault (take 3 (grid_head_rules (length a.file.now) (word_at a.order a.file.now)))
+unfolding grid_head_rules chained first
 early c =
-    by-table
+    by_table
     _
     (rw (
       c.check2.ensures,
@@ -47,21 +47,21 @@ early c =
 -- what its checks of the other two say
 late : (c : tie.After-check4)
     → let a = c.before.before.before.before.before.before.before.before.before.before.before.before.args in
-    c.check4.result ≡ firstFault (drop 3 (gridHeadRules (length a.file.now) (word_at a.order a.file.now)))
-unfolding gridHeadRules chained
+    c.check4.result ≡ first_fault (drop 3 (grid_head_rules (length a.file.now) (word_at a.order a.file.now)))
+unfolding grid_head_rules chained
 late c =
-    by-table
+    by_table
     _
     (rw (
       c.check4.ensures,
       c.before.check3.ensures,
-      c.before.before.at-least.ensures,
+      c.before.before.at_least_lem.ensures,
       c.before.before.before.read-word2.ensures,
       c.before.before.before.before.before.before.before.before.before.read_word.ensures,
     ))
 
 returns : tie.Need-returns
-unfolding gridHeadRules firstFault judge first
+unfolding grid_head_rules first_fault judge first
 returns c = rw (lt-leb _ _ c.if1.true)
 
 read-word-requires : tie.Need-read-word-requires

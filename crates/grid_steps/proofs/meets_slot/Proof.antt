@@ -8,7 +8,7 @@ use borrow.Author.Rules.{rules}
 use Rattle.endian_rules.specs.Words.{word_at}
 use Rattle.grid_rules.specs.Rules.{meets}
 use Rattle.grid_rules.specs.Accepts.{AcceptsGridSlot}
-use Rattle.grid_rules.proofs.Slots.{slot-exactly}
+use Rattle.grid_rules.proofs.Slots.{slot_exactly}
 use Rattle.grid_steps.proofs.meets_slot.Statement.{statement}
 use Rattle.grid_steps.proofs.meets_slot.Tie as tie
 
@@ -30,7 +30,7 @@ read-word-requires-2 c κs =
     let s = c.before.before.before in
     let w = word_at s.args.order s.args.file.now in
     let a : AcceptsGridSlot w s.args.n s.args.next s.args.j =
-    (slot-exactly w s.args.n s.args.next s.args.j).0 s.requires.1.1 (λ e. c.if1.false (c.before.read_word.ensures ∙ e)) in
+    (slot_exactly w s.args.n s.args.next s.args.j).0 s.requires.1.1 (λ e. c.if1.false (c.before.read_word.ensures ∙ e)) in
     omega (arith, a.header, s.requires.0.whole, c.before.read_word.ensures)
 
 add-and : tie.Need-overflow-add-and

@@ -5,10 +5,10 @@ use Prim.Native.Nat.{◌<◌}
 use native.Mathlib.Omega.{arith}
 use borrow.Author.Rules.{rules}
 use Rattle.endian_rules.specs.Words.{word_at}
-use Rattle.refusal_rules.specs.Rules.{first, firstFault, chained}
+use Rattle.refusal_rules.specs.Rules.{first, first_fault, chained}
 use Rattle.refusal_rules.specs.declared.Verdict.TheVariants.{Pass, Fault}
-use Rattle.refusal_rules.proofs.Tables.{by-table, joined}
-use Rattle.grid_rules.specs.Rules.{headerRules, ownRules}
+use Rattle.refusal_rules.proofs.Tables.{by_table, joined}
+use Rattle.grid_rules.specs.Rules.{header_rules, own_rules}
 use Rattle.grid_rules.proofs.Slots.{header-end}
 use Rattle.grid_steps.proofs.own_verdict.Statement.{statement}
 use Rattle.grid_steps.proofs.own_verdict.Tie as tie
@@ -16,10 +16,10 @@ use Rattle.grid_steps.proofs.own_verdict.Tie as tie
 -- what the two checks of the header's place say
 place : (c : tie.After-check2)
     → let a = c.before.before.before.before.before.args in
-    c.check2.result ≡ firstFault (headerRules (word_at a.order a.file.now) a.n a.next a.k)
-unfolding headerRules chained
+    c.check2.result ≡ first_fault (header_rules (word_at a.order a.file.now) a.n a.next a.k)
+unfolding header_rules chained
 place c =
-    by-table _ (rw (c.check2.ensures, c.before.check.ensures, c.before.before.at-least.ensures, c.before.before.before.read_word.ensures))
+    by_table _ (rw (c.check2.ensures, c.before.check.ensures, c.before.before.at_least_lem.ensures, c.before.before.before.read_word.ensures))
 
 add-read-word : tie.Need-overflow-add-read-word
 add-read-word c = search rules
@@ -66,14 +66,14 @@ size-verdict-requires c κs =
     (s.requires.0.whole, (s.requires.0.small, (few, omega (arith, header, c.before.before.before.before.before.read_word.ensures))))
 
 returns : tie.Need-returns
-unfolding ownRules first
-returns c = sym (joined (headerRules _ _ _ _) _ (Fault _) (sym (place c.before.before.before) ∙ c.before.refusal.given.1))
+unfolding own_rules first
+returns c = sym (joined (header_rules _ _ _ _) _ (Fault _) (sym (place c.before.before.before) ∙ c.before.refusal.given.1))
 
 returns-2 : tie.Need-returns-2
-unfolding ownRules first
+unfolding own_rules first
 returns-2 c =
     let passed = sym (place c.before.before.before) ∙ c.before.enum_told.given.1 in
-    rw (c.size-verdict.ensures, c.before.before.before.before.before.before.read_word.ensures) (sym (joined (headerRules _ _ _ _) _ Pass passed))
+    rw (c.size-verdict.ensures, c.before.before.before.before.before.before.read_word.ensures) (sym (joined (header_rules _ _ _ _) _ Pass passed))
 
 pub own-verdict-spec : {M : Type 1} → statement M
 own-verdict-spec =

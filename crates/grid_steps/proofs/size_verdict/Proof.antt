@@ -5,8 +5,8 @@ use native.Mathlib.Nat.{mul-le-mul}
 use native.Mathlib.Omega.{arith}
 use borrow.Author.Rules.{rules}
 use Rattle.refusal_rules.specs.Rules.{chained}
-use Rattle.refusal_rules.proofs.Tables.{by-table}
-use Rattle.grid_rules.specs.Rules.{sizeRules}
+use Rattle.refusal_rules.proofs.Tables.{by_table}
+use Rattle.grid_rules.specs.Rules.{size_rules}
 use Rattle.grid_steps.proofs.size_verdict.Statement.{statement}
 use Rattle.grid_steps.proofs.size_verdict.Tie as tie
 
@@ -74,9 +74,9 @@ check-requires-3 : tie.Need-check-requires-3
 check-requires-3 c κs = search rules
 
 returns : tie.Need-returns
-unfolding sizeRules chained
+unfolding size_rules chained
 returns c =
-    by-table
+    by_table
     _
     (rw (
       c.check3.ensures,

@@ -8,40 +8,40 @@ use lib.ListN.{length}
 use lib.Seq.{sets, length-sets}
 use borrow.Author.Rules.{rules}
 use Rattle.endian_rules.specs.Words.{word_at}
-use Rattle.refusal_rules.specs.Rules.{firstFault}
+use Rattle.refusal_rules.specs.Rules.{first_fault}
 use Rattle.refusal_rules.specs.Answers.{gives}
 use Rattle.refusal_rules.specs.declared.Verdict.TheVariants.{Pass}
-use Rattle.extent_rules.specs.Stretches.{first_word, highestEnd}
+use Rattle.extent_rules.specs.Stretches.{first_word, highest_end}
 use Rattle.extent_rules.specs.Steps.{GridAccepted, SlotsInside}
 use Rattle.extent_rules.specs.declared.Extent.{Extent}
-use Rattle.extent_rules.proofs.Slots.{accepted-slots}
-use Rattle.grid_update_rules.specs.Updates.{nextFreeSet, lowestEmpty, gridWords, addressFor, addRules, gridPut, withGrid, added}
+use Rattle.extent_rules.proofs.Slots.{accepted_slots}
+use Rattle.grid_update_rules.specs.Updates.{next_free_set, lowest_empty, grid_words, address_for, add_rules, grid_put, with_grid, added}
 use Rattle.grid_update_rules.specs.declared.Added.{Added}
-use Rattle.grid_update_rules.proofs.Addition.{newAddress, newBytes, gridIn, add-passes, add-place, added-slots, added-small, added-accepted}
-use Rattle.grid_update_rules.specs.Steps.{addStep}
+use Rattle.grid_update_rules.proofs.Addition.{new_address, new_bytes, grid_in, add_passes, add_place, added-slots, added-small, added_accepted}
+use Rattle.grid_update_rules.specs.Steps.{add_step}
 use Rattle.grid_update_rules.specs.declared.AddPlan.{AddPlan}
-use Rattle.grid_update_rules.proofs.Plans.{plan-verdict, plan-number, set-as, added_is}
-use Rattle.grid_update_rules.proofs.Verdicts.{step-pass, step-fault}
+use Rattle.grid_update_rules.proofs.Plans.{plan_verdict, plan-number, set_as, added_is}
+use Rattle.grid_update_rules.proofs.Verdicts.{step_pass, step_fault}
 use Rattle.grid_update_steps.proofs.add_at.Statement.{statement}
 use Rattle.grid_update_steps.proofs.add_at.Tie as tie
 
 -- the plan's verdict is that of the rules
 verdict-is : (s : tie.Start)
     → let a = s.args in
-    a.plan.verdict ≡ firstFault (addRules a.order a.file.now (length a.header.now) a.rows a.columns (length a.values.now) a.size)
+    a.plan.verdict ≡ first_fault (add_rules a.order a.file.now (length a.header.now) a.rows a.columns (length a.values.now) a.size)
 verdict-is s =
     let a = s.args in
-    ap (λ (p : AddPlan). p.verdict) s.requires.planned ∙ plan-verdict a.order a.file.now (length a.header.now) a.rows a.columns
+    ap (λ (p : AddPlan). p.verdict) s.requires.planned ∙ plan_verdict a.order a.file.now (length a.header.now) a.rows a.columns
     (length a.values.now) a.size
 
 -- which have passed
 passed : (c : tie.After-enum-told)
     → let a = c.before.before.before.before.args in
-    firstFault (addRules a.order a.file.now (length a.header.now) a.rows a.columns (length a.values.now) a.size) ≡ Pass
+    first_fault (add_rules a.order a.file.now (length a.header.now) a.rows a.columns (length a.values.now) a.size) ≡ Pass
 passed c = sym (verdict-is c.before.before.before.before) ∙ c.enum_told.given.1
 
 -- the grid's number is that of its slot
-numbered : (c : tie.After-enum-told) → let a = c.before.before.before.before.args in a.plan.number ≡ lowestEmpty (word_at a.order a.file.now) + 1
+numbered : (c : tie.After-enum-told) → let a = c.before.before.before.before.args in a.plan.number ≡ lowest_empty (word_at a.order a.file.now) + 1
 numbered c =
     let s = c.before.before.before.before in
     let a = s.args in
@@ -50,38 +50,38 @@ numbered c =
 
 -- it begins at the lowest address
 placed : (c : tie.After-first-fitting)
-    → let a = c.before.before.before.before.before.before.args in c.first-fitting.result.start ≡ addressFor a.order a.file.now
-    (gridWords a.rows a.columns)
+    → let a = c.before.before.before.before.before.before.args in c.first-fitting.result.start ≡ address_for a.order a.file.now
+    (grid_words a.rows a.columns)
 placed c = ap (λ (e : Extent). e.start) c.first-fitting.ensures ∙ c.before.before.before.before.before.before.requires.address c.before.before.enum_told.given.1
 
 -- the file with the grid in it
 written : (c : tie.After-write-grid)
     → let a = c.before.before.before.before.before.before.before.before.args in
-    c.write-grid.new.0 ≡ sets a.file.now (4 * newAddress a.order a.file.now a.header.now a.rows a.columns a.values.now)
-    (newBytes a.order a.file.now a.header.now a.rows a.columns a.values.now)
+    c.write-grid.new.0 ≡ sets a.file.now (4 * new_address a.order a.file.now a.header.now a.rows a.columns a.values.now)
+    (new_bytes a.order a.file.now a.header.now a.rows a.columns a.values.now)
 written c =
     let a = c.before.before.before.before.before.before.before.before.args in
     c.write-grid.ensures ∙ ap (λ (k : ℕ). sets a.file.now (4 * k)
-    (newBytes a.order a.file.now a.header.now a.rows a.columns a.values.now)) (placed c.before.before)
+    (new_bytes a.order a.file.now a.header.now a.rows a.columns a.values.now)) (placed c.before.before)
 
 -- and in its slot
 put : (c : tie.After-write-number)
     → let a = c.before.before.before.before.before.before.before.before.before.before.before.before.before.args in
-    c.write-number.new.1.1.0 ≡ gridIn a.order a.file.now a.header.now a.rows a.columns a.values.now
+    c.write-number.new.1.1.0 ≡ grid_in a.order a.file.now a.header.now a.rows a.columns a.values.now
 put c =
     let a = c.before.before.before.before.before.before.before.before.before.before.before.before.before.args in
     c.write-number.ensures
-    ∙ set-as a.order _ _ _ (11 + lowestEmpty (word_at a.order a.file.now)) _ _ (written c.before.before.before.before.before)
+    ∙ set_as a.order _ _ _ (11 + lowest_empty (word_at a.order a.file.now)) _ _ (written c.before.before.before.before.before)
     (omega (arith, numbered c.before.before.before.before.before.before.before.before.before))
     (placed c.before.before.before.before.before.before.before)
 
 -- and with its next free word
 left : (c : tie.After-set-next-free)
     → let a = c.before.before.before.before.before.before.before.before.before.before.before.before.before.before.before.before.before.args in
-    c.set-next-free.new.0 ≡ withGrid a.order a.file.now a.header.now a.rows a.columns a.values.now
-unfolding withGrid gridPut
+    c.set-next-free.new.0 ≡ with_grid a.order a.file.now a.header.now a.rows a.columns a.values.now
+unfolding with_grid grid_put
 left c = let a = c.before.before.before.before.before.before.before.before.before.before.before.before.before.before.before.before.before.args in
-    c.set-next-free.ensures ∙ ap (nextFreeSet a.order) (put c.before.before.before.before)
+    c.set-next-free.ensures ∙ ap (next_free_set a.order) (put c.before.before.before.before)
 
 enum-known-verdict : tie.Need-enum-known-verdict
 enum-known-verdict c = search rules
@@ -97,10 +97,10 @@ write-grid-requires c κs =
     let s = c.before.before.before.before.before.before.before in
     let a = s.args in
     let ok = passed c.before.before.before in
-    let p = (add-passes a.order a.file.now (length a.header.now) a.rows a.columns (length a.values.now) a.size).0 ok in
-    let x = add-place a.order a.file.now a.header.now a.rows a.columns a.values.now a.size ok in
+    let p = (add_passes a.order a.file.now (length a.header.now) a.rows a.columns (length a.values.now) a.size).0 ok in
+    let x = add_place a.order a.file.now a.header.now a.rows a.columns a.values.now a.size ok in
     let at = placed c.before in
-    (p.asked.whole-header, (p.asked.all-values, (omega (arith, x.by_last), omega (arith, x.inside, at))))
+    (p.asked.whole-header, (p.asked.all_values, (omega (arith, x.by_last), omega (arith, x.inside, at))))
 
 cast-write-number : tie.Need-overflow-cast-write-number
 cast-write-number c = search rules
@@ -117,7 +117,7 @@ cast-write-number-2 c =
     record {
       fits = omega (
         arith,
-        (add-place a.order a.file.now a.header.now a.rows a.columns a.values.now a.size
+        (add_place a.order a.file.now a.header.now a.rows a.columns a.values.now a.size
             (passed c.before.before.before.before.before.before.before.before)).by_last,
         placed c.before.before.before.before.before.before,
       );
@@ -127,16 +127,16 @@ write-number-requires : tie.Need-write-number-requires
 write-number-requires c κs =
     let a = c.before.before.before.before.before.before.before.before.before.before.before.before.args in
     let ok = passed c.before.before.before.before.before.before.before.before in
-    let p = (add-passes a.order a.file.now (length a.header.now) a.rows a.columns (length a.values.now) a.size).0 ok in
+    let p = (add_passes a.order a.file.now (length a.header.now) a.rows a.columns (length a.values.now) a.size).0 ok in
     let same : length c.before.before.before.before.write-grid.new.0 ≡ length a.file.now = ap length (written c.before.before.before.before) ∙
-    length-sets a.file.now (4 * newAddress a.order a.file.now a.header.now a.rows a.columns a.values.now)
-    (newBytes a.order a.file.now a.header.now a.rows a.columns a.values.now) in
+    length-sets a.file.now (4 * new_address a.order a.file.now a.header.now a.rows a.columns a.values.now)
+    (new_bytes a.order a.file.now a.header.now a.rows a.columns a.values.now) in
     omega (
       arith,
       same,
       p.slot,
       numbered c.before.before.before.before.before.before.before.before,
-      (accepted-slots a.order a.file.now
+      (accepted_slots a.order a.file.now
           p.asked.accepted).room,
     )
 
@@ -146,7 +146,7 @@ set-next-free-requires c κs =
     let a = s.args in
     let o = a.order in
     let ok = passed c.before.before.before.before.before.before.before.before.before.before.before.before in
-    subst (λ (f : List ℕ). SlotsInside (length f) (word_at o f) × (highestEnd (word_at o f) (first_word (word_at o f)) (word_at o f 10) < 2147483648))
+    subst (λ (f : List ℕ). SlotsInside (length f) (word_at o f) × (highest_end (word_at o f) (first_word (word_at o f)) (word_at o f 10) < 2147483648))
     (sym (put c.before.before.before)) (
       added-slots a.order a.file.now a.header.now a.rows a.columns a.values.now a.size ok,
       omega
@@ -158,15 +158,15 @@ survey-free-requires c κs =
     let s = c.before.before.before.before.before.before.before.before.before.before.before.before.before.before.before.before.before.before.before.before in
     let a = s.args in
     subst (GridAccepted a.order) (sym (left c.before.before.before))
-    (added-accepted a.order a.file.now a.header.now a.rows a.columns a.values.now a.size
+    (added_accepted a.order a.file.now a.header.now a.rows a.columns a.values.now a.size
     (passed c.before.before.before.before.before.before.before.before.before.before.before.before.before.before.before.before))
 
 returns : tie.Need-returns
-unfolding addStep
+unfolding add_step
 returns c =
     let s = c.before.before.before.before.before in
     let a = s.args in
-    step-fault (firstFault (addRules a.order a.file.now (length a.header.now) a.rows a.columns (length a.values.now) a.size)) _ a.order
+    step_fault (first_fault (add_rules a.order a.file.now (length a.header.now) a.rows a.columns (length a.values.now) a.size)) _ a.order
     a.file.now _ _
     (sym (verdict-is s) ∙ c.before.verdict.given.1)
 
@@ -174,7 +174,7 @@ same_length : tie.Need-same-length
 same_length c = search rules
 
 returns-2 : tie.Need-returns-2
-unfolding addStep
+unfolding add_step
 returns-2 c =
     let a = c.before.before.before.before.before.before.before.before.before.before.before.before.before.before.before.before.before.before.before.before.before.args in
     let count = c.survey-free.result.count in
@@ -182,7 +182,7 @@ returns-2 c =
     (added_is a.order a.file.now a.rows a.columns count _ _
     (numbered c.before.before.before.before.before.before.before.before.before.before.before.before.before.before.before.before.before)
     (placed c.before.before.before.before.before.before.before.before.before.before.before.before.before.before.before))
-    ∙ step-pass (firstFault (addRules a.order a.file.now (length a.header.now) a.rows a.columns (length a.values.now) a.size))
+    ∙ step_pass (first_fault (add_rules a.order a.file.now (length a.header.now) a.rows a.columns (length a.values.now) a.size))
     (added a.order a.file.now a.rows a.columns) a.order a.file.now _
     (passed c.before.before.before.before.before.before.before.before.before.before.before.before.before.before.before.before.before) _
     (left c.before.before.before.before) _ c.survey-free.ensures

@@ -6,15 +6,15 @@ use native.Mathlib.Nat.{mul-le-mul}
 use native.Mathlib.Omega.{arith}
 use borrow.Author.Rules.{rules}
 use Rattle.refusal_rules.specs.Rules.{chained}
-use Rattle.refusal_rules.proofs.Tables.{by-table}
-use Rattle.extent_rules.proofs.Slots.{accepted-slots}
-use Rattle.grid_update_rules.specs.Updates.{addOwn}
-use Rattle.grid_update_rules.proofs.Verdicts.{add-own}
+use Rattle.refusal_rules.proofs.Tables.{by_table}
+use Rattle.extent_rules.proofs.Slots.{accepted_slots}
+use Rattle.grid_update_rules.specs.Updates.{add_own}
+use Rattle.grid_update_rules.proofs.Verdicts.{add_own_lem}
 use Rattle.grid_update_steps.proofs.add_verdict.Statement.{statement}
 use Rattle.grid_update_steps.proofs.add_verdict.Tie as tie
 
 read-word-requires : tie.Need-read-word-requires
-read-word-requires c κs = let a = c.before in omega (arith, (accepted-slots a.args.order a.args.file.now a.requires).room)
+read-word-requires c κs = let a = c.before in omega (arith, (accepted_slots a.args.order a.args.file.now a.requires).room)
 
 cast-n : tie.Need-overflow-cast-n
 cast-n c = search rules
@@ -74,7 +74,7 @@ returns c =
     let a = c.before.before.before.before.before.before.before.before.before.before.before.before.before in
     let o = a.args.order in
     let f = a.args.file.now in
-    by-table (addOwn o f a.args.headers a.args.rows a.args.columns a.args.values a.args.size)
+    by_table (add_own o f a.args.headers a.args.rows a.args.columns a.args.values a.args.size)
     (rw (
       c.check7.ensures,
       c.before.check6.ensures,
@@ -89,7 +89,7 @@ returns c =
       c.before.before.before.before.before.before.before.before.before.before.lowest-empty.ensures,
       c.before.before.before.before.before.before.before.before.before.before.before.read_word.ensures,
     ))
-    ∙ add-own o f a.args.headers a.args.rows a.args.columns a.args.values a.args.size a.requires
+    ∙ add_own_lem o f a.args.headers a.args.rows a.args.columns a.args.values a.args.size a.requires
 
 pub add-verdict-spec : {M : Type 1} → statement M
 add-verdict-spec =

@@ -4,13 +4,13 @@ use mathlib.Core.Path.{◌≡◌, sym, ◌∙◌}
 use Prim.Native.Nat.{ℕ}
 use native.Mathlib.Omega.{arith}
 use Rattle.endian_rules.specs.Words.{word_at}
-use Rattle.refusal_rules.specs.Rules.{firstFault, chained}
-use Rattle.refusal_rules.proofs.Exactness.{within-exactly}
-use Rattle.refusal_rules.proofs.Tables.{pass-hold, by-table}
+use Rattle.refusal_rules.specs.Rules.{first_fault, chained}
+use Rattle.refusal_rules.proofs.Exactness.{within_exactly}
+use Rattle.refusal_rules.proofs.Tables.{pass_hold, by_table}
 use Rattle.extent_rules.specs.Steps.{GridAccepted}
-use Rattle.extent_rules.proofs.Slots.{accepted-slots}
+use Rattle.extent_rules.proofs.Slots.{accepted_slots}
 use borrow.Author.Rules.{rules}
-use Rattle.grid_update_rules.proofs.Verdicts.{heads, delete-file, delete-heads, delete-slot}
+use Rattle.grid_update_rules.proofs.Verdicts.{heads, delete_file, delete_heads, delete_slot}
 use Rattle.grid_update_steps.proofs.delete_verdict.Statement.{statement}
 use Rattle.grid_update_steps.proofs.delete_verdict.Tie as tie
 
@@ -31,12 +31,12 @@ passed c = sym c.before.before.file-verdict.ensures ∙ c.enum_told.given.1
 headed : (c : tie.After-check2)
     → let a = c.before.before.before.before.before.before.before.before.args in
     let w : ℕ → ℕ = word_at a.order a.file.now in
-    c.check2.result ≡ firstFault (heads w a.number a.size)
+    c.check2.result ≡ first_fault (heads w a.number a.size)
 unfolding chained
-headed c = by-table _ (rw (c.check2.ensures, c.before.within.ensures, c.before.before.check.ensures, c.before.before.before.read_word.ensures))
+headed c = by_table _ (rw (c.check2.ensures, c.before.within.ensures, c.before.before.check.ensures, c.before.before.before.read_word.ensures))
 
 read-word-requires : tie.Need-read-word-requires
-read-word-requires c κs = let a = c.before.before.before.before.args in omega (arith, (accepted-slots a.order a.file.now (passed c)).room)
+read-word-requires c κs = let a = c.before.before.before.before.args in omega (arith, (accepted_slots a.order a.file.now (passed c)).room)
 
 cast-check : tie.Need-overflow-cast-check
 cast-check c = search rules
@@ -64,12 +64,12 @@ add-read-word c = search rules
 
 read-word-requires-2 : tie.Need-read-word-requires-2
 read-word-requires-2 c κs =
-    let heads = pass-hold _ (sym (headed c.before.before) ∙ c.enum-told2.given.1) in
+    let heads = pass_hold _ (sym (headed c.before.before) ∙ c.enum-told2.given.1) in
     let a = c.before.before.before.before.before.before.before.before.before.before.args in
     omega (
       arith,
-      (accepted-slots a.order a.file.now (passed c.before.before.before.before.before.before)).room,
-      ((within-exactly 1
+      (accepted_slots a.order a.file.now (passed c.before.before.before.before.before.before)).room,
+      ((within_exactly 1
           (word_at a.order a.file.now 10) a.number).sound heads.1.0).1,
     )
 
@@ -77,20 +77,20 @@ check-requires-3 : tie.Need-check-requires-3
 check-requires-3 c κs = search rules
 
 returns : tie.Need-returns
-returns c = let a = c.before.before.before.before.before.args in delete-file a.order a.file.now a.number a.size _
+returns c = let a = c.before.before.before.before.before.args in delete_file a.order a.file.now a.number a.size _
     (sym c.before.before.before.file-verdict.ensures ∙ c.before.refusal.given.1)
 
 returns-2 : tie.Need-returns-2
 returns-2 c =
     let a = c.before.before.before.before.before.before.before.before.before.before.before.args in
-    delete-heads a.order a.file.now a.number a.size (passed c.before.before.before.before.before.before.before) _
+    delete_heads a.order a.file.now a.number a.size (passed c.before.before.before.before.before.before.before) _
     (sym (headed c.before.before.before) ∙ c.before.refusal2.given.1)
 
 returns-3 : tie.Need-returns-3
 returns-3 c =
     let a = c.before.before.before.before.before.before.before.before.before.before.before.before.args in
     rw (c.check3.ensures, c.before.read-word2.ensures)
-    (delete-slot a.order a.file.now a.number a.size (passed c.before.before.before.before.before.before.before.before)
+    (delete_slot a.order a.file.now a.number a.size (passed c.before.before.before.before.before.before.before.before)
     (sym (headed c.before.before.before.before) ∙ c.before.before.enum-told2.given.1))
 
 pub delete-verdict-spec : {M : Type 1} → statement M

@@ -6,33 +6,33 @@ use Prim.Native.Nat.{ℕ, ◌+◌, ◌-◌, ◌≤◌, ◌<◌}
 use native.Mathlib.Omega.{arith}
 use lib.ListN.{length}
 use borrow.Author.Tests.{eq-eqb, ne_eqb}
-use Rattle.lists.proofs.Lowest.{lowest-exactly}
+use Rattle.lists.proofs.Lowest.{lowest_exactly}
 use Rattle.endian_rules.specs.Words.{word_at}
-use Rattle.grid_rules.specs.Rules.{emptySlot, isEmptySlot}
+use Rattle.grid_rules.specs.Rules.{empty_slot, is_empty_slot}
 use Rattle.grid_rules.proofs.Slots.{below_more}
 use Rattle.extent_rules.specs.Steps.{SlotsInside}
-use Rattle.extent_rules.proofs.Slots.{accepted-slots}
-use Rattle.grid_update_rules.specs.Updates.{lowestEmpty}
+use Rattle.extent_rules.proofs.Slots.{accepted_slots}
+use Rattle.grid_update_rules.specs.Updates.{lowest_empty}
 use Rattle.grid_update_steps.proofs.lowest_empty.Statement.{statement}
 use Rattle.grid_update_steps.proofs.lowest_empty.Tie as tie
 
 -- a slot such that none before it is empty, and that is empty itself or behind the last, is the lowest
-found : (w : ℕ → ℕ) (k : ℕ) → k ≤ w 10 → ((q : ℕ) → q < k → isEmptySlot w q ≡ false) → (k < w 10 → isEmptySlot w k ≡ true) → k ≡ lowestEmpty w
-unfolding lowestEmpty
+found : (w : ℕ → ℕ) (k : ℕ) → k ≤ w 10 → ((q : ℕ) → q < k → is_empty_slot w q ≡ false) → (k < w 10 → is_empty_slot w k ≡ true) → k ≡ lowest_empty w
+unfolding lowest_empty
 found w k most before here =
-    sym ((lowest-exactly (isEmptySlot w) 0 (w 10) k).1 (
+    sym ((lowest_exactly (is_empty_slot w) 0 (w 10) k).1 (
     record { from = omega arith; to = omega (arith, most); none = λ q l m. before q m; holds = λ l. here (omega (arith, l)) }
     ))
 
 abbrev invariant-loop : tie.invariant-loop
-invariant-loop file order n k₀ k = (k ≤ n) × ((n ≡ word_at order file 10) × ((q : ℕ) → q < k → isEmptySlot (word_at order file) q ≡ false))
+invariant-loop file order n k₀ k = (k ≤ n) × ((n ≡ word_at order file 10) × ((q : ℕ) → q < k → is_empty_slot (word_at order file) q ≡ false))
 
 abbrev decreases-loop : tie.decreases-loop
 decreases-loop file order n k₀ k = n - k
 
 -- the directory is inside the file
 inside : (s : tie.Start invariant-loop decreases-loop) → SlotsInside (length s.args.file.now) (word_at s.args.order s.args.file.now)
-inside s = accepted-slots s.args.order s.args.file.now s.requires
+inside s = accepted_slots s.args.order s.args.file.now s.requires
 
 read-word-requires : tie.Need-read-word-requires invariant-loop decreases-loop
 read-word-requires c κs = omega (arith, (inside c.before).room)
@@ -54,7 +54,7 @@ returns c =
     let a = c.before.before.before.before.before.before.args in
     let i = c.before.before.before.loop in
     let w : ℕ → ℕ = word_at a.order a.file.now in
-    let here : isEmptySlot w i.k ≡ true = eq-eqb (w (11 + i.k)) emptySlot (sym c.before.read-word2.ensures ∙ c.if1.true) in
+    let here : is_empty_slot w i.k ≡ true = eq-eqb (w (11 + i.k)) empty_slot (sym c.before.read-word2.ensures ∙ c.if1.true) in
     found w i.k (omega (arith, i.invariant.0, i.invariant.1.0)) i.invariant.1.1 (λ l. here)
 
 add-k : tie.Need-overflow-add-k invariant-loop decreases-loop
@@ -68,7 +68,7 @@ loop-again c =
     let a = c.before.before.before.before.before.before.args in
     let i = c.before.before.before.loop in
     let w : ℕ → ℕ = word_at a.order a.file.now in
-    let here : isEmptySlot w i.k ≡ false = ne_eqb (w (11 + i.k)) emptySlot (λ e. c.if1.false (c.before.read-word2.ensures ∙ e)) in
+    let here : is_empty_slot w i.k ≡ false = ne_eqb (w (11 + i.k)) empty_slot (λ e. c.if1.false (c.before.read-word2.ensures ∙ e)) in
     (omega arith, (i.invariant.1.0, λ q l. below_more i.k i.invariant.1.1 here q (omega (arith, l))))
 
 returns-2 : tie.Need-returns-2 invariant-loop decreases-loop

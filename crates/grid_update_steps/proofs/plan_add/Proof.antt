@@ -6,15 +6,15 @@ use native.Mathlib.Nat.{mul-le-mul}
 use native.Mathlib.Omega.{arith}
 use borrow.Author.Rules.{rules}
 use Rattle.endian_rules.specs.Words.{word_at}
-use Rattle.refusal_rules.specs.Rules.{firstFault}
+use Rattle.refusal_rules.specs.Rules.{first_fault}
 use Rattle.refusal_rules.specs.declared.Verdict.TheVariants.{Pass}
 use Rattle.extent_rules.specs.Steps.{GridAccepted, survey}
 use Rattle.extent_rules.specs.declared.Survey.{Survey}
-use Rattle.extent_rules.proofs.Slots.{accepted-slots}
-use Rattle.grid_update_rules.specs.Updates.{lowestEmpty, addRules}
-use Rattle.grid_update_rules.proofs.Addition.{add-passes}
-use Rattle.grid_update_rules.proofs.Verdicts.{add-file}
-use Rattle.grid_update_rules.proofs.Plans.{plan-fault, plan-pass, pass-some}
+use Rattle.extent_rules.proofs.Slots.{accepted_slots}
+use Rattle.grid_update_rules.specs.Updates.{lowest_empty, add_rules}
+use Rattle.grid_update_rules.proofs.Addition.{add_passes}
+use Rattle.grid_update_rules.proofs.Verdicts.{add_file}
+use Rattle.grid_update_rules.proofs.Plans.{plan_fault, plan_pass, pass_some}
 use Rattle.grid_update_steps.proofs.plan_add.Statement.{statement}
 use Rattle.grid_update_steps.proofs.plan_add.Tie as tie
 
@@ -35,17 +35,17 @@ accepted : (c : tie.After-enum-told) → let a = c.before.before.before.before.a
 accepted c = sym c.before.before.file-verdict.ensures ∙ c.enum_told.given.1
 
 -- and where the rules have
-passed : (c : tie.After-enum-told2) → let a = c.before.before.before.before.before.before.before.args in firstFault
-    (addRules a.order a.file.now a.headers a.rows a.columns a.values a.size) ≡ Pass
+passed : (c : tie.After-enum-told2) → let a = c.before.before.before.before.before.before.before.args in first_fault
+    (add_rules a.order a.file.now a.headers a.rows a.columns a.values a.size) ≡ Pass
 passed c = sym c.before.before.add-verdict.ensures ∙ c.enum-told2.given.1
 
 -- the slot is one of at most 1,024
-slot_small : (c : tie.After-enum-told2) → let a = c.before.before.before.before.before.before.before.args in lowestEmpty (word_at a.order a.file.now)
+slot_small : (c : tie.After-enum-told2) → let a = c.before.before.before.before.before.before.before.args in lowest_empty (word_at a.order a.file.now)
     < 1024
 slot_small c =
     let a = c.before.before.before.before.before.before.before.args in
-    let p = (add-passes a.order a.file.now a.headers a.rows a.columns a.values a.size).0 (passed c) in
-    omega (arith, p.slot, (accepted-slots a.order a.file.now p.asked.accepted).few)
+    let p = (add_passes a.order a.file.now a.headers a.rows a.columns a.values a.size).0 (passed c) in
+    omega (arith, p.slot, (accepted_slots a.order a.file.now p.asked.accepted).few)
 
 -- how many points a grid of so many rows and columns has at most
 points : (s : tie.Start) → s.args.rows * s.args.columns ≤ 4294967295 * 4294967295
@@ -90,7 +90,7 @@ sub-t24 c =
     let a = c.before.before.before.before.before.before.before.before.before.before.before.args in
     omega (
       arith,
-      pass-some a.order a.file.now a.headers a.rows a.columns a.values a.size (passed c.before.before.before.before),
+      pass_some a.order a.file.now a.headers a.rows a.columns a.values a.size (passed c.before.before.before.before),
       ap
           (λ (s : Survey). s.count) c.before.before.survey-free.ensures,
     )
@@ -98,20 +98,20 @@ sub-t24 c =
 returns : tie.Need-returns
 returns c =
     let a = c.before.before.before.before.before.before.args in
-    c.refused-plan.ensures ∙ plan-fault a.order a.file.now a.headers a.rows a.columns a.values a.size _
-    (sym (add-file a.order a.file.now a.headers a.rows a.columns a.values a.size _
+    c.refused-plan.ensures ∙ plan_fault a.order a.file.now a.headers a.rows a.columns a.values a.size _
+    (sym (add_file a.order a.file.now a.headers a.rows a.columns a.values a.size _
     (sym c.before.before.before.before.file-verdict.ensures ∙ c.before.before.refusal.given.1)))
 
 returns-2 : tie.Need-returns-2
 returns-2 c =
     let a = c.before.before.before.before.before.before.before.before.before.args in
-    c.refused-plan2.ensures ∙ plan-fault a.order a.file.now a.headers a.rows a.columns a.values a.size _
+    c.refused-plan2.ensures ∙ plan_fault a.order a.file.now a.headers a.rows a.columns a.values a.size _
     (sym c.before.before.before.before.add-verdict.ensures ∙ c.before.before.refusal2.given.1)
 
 returns-3 : tie.Need-returns-3
 returns-3 c =
     let a = c.before.before.before.before.before.before.before.before.before.before.before.args in
-    plan-pass a.order a.file.now a.headers a.rows a.columns a.values a.size (passed c.before.before.before.before) _
+    plan_pass a.order a.file.now a.headers a.rows a.columns a.values a.size (passed c.before.before.before.before) _
     c.before.before.before.lowest-empty.ensures _ c.before.before.survey-free.ensures
 
 pub plan-add-spec : {M : Type 1} → statement M

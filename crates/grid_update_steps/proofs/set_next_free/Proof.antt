@@ -1,7 +1,7 @@
 -- `grid_update_steps::set_next_free` meets its contract.
 -- Assumes nothing.
 use native.Mathlib.Omega.{arith}
-use Rattle.grid_update_rules.specs.Updates.{setWord, nextFreeSet}
+use Rattle.grid_update_rules.specs.Updates.{set_word, next_free_set}
 use borrow.Author.Rules.{rules}
 use Rattle.grid_update_steps.proofs.set_next_free.Statement.{statement}
 use Rattle.grid_update_steps.proofs.set_next_free.Tie as tie
@@ -31,7 +31,7 @@ same_length : tie.Need-same-length
 same_length c = search rules
 
 returns : tie.Need-returns
-unfolding nextFreeSet setWord
+unfolding next_free_set set_word
 returns c = rw (
   c.before.before.write-number.ensures,
   c.before.before.before.before.highest-end.ensures,

@@ -21,8 +21,8 @@ loop-holds c = refl
 shared-slice-read-file : tie.Need-shared-slice-read-file invariant-loop decreases-loop
 shared-slice-read-file c = omega arith
 
-add-file : tie.Need-overflow-add-file invariant-loop decreases-loop
-add-file c = omega arith
+add_file : tie.Need-overflow-add-file invariant-loop decreases-loop
+add_file c = omega arith
 
 slice-write-file : tie.Need-slice-write-file invariant-loop decreases-loop
 slice-write-file c =
@@ -59,7 +59,7 @@ write-bytes-spec =
     decreases-loop
     loop-holds
     shared-slice-read-file
-    add-file
+    add_file
     slice-write-file
     add-i
     loop-less

@@ -7,7 +7,7 @@ use native.Mathlib.Omega.{arith}
 use lib.ListN.{length, take, drop, length-drop}
 use lib.Seq.{sets, take_all}
 use borrow.Author.Rules.{rules}
-use Rattle.grid_update_rules.proofs.Bytes.{grid-stored}
+use Rattle.grid_update_rules.proofs.Bytes.{grid_stored}
 use Rattle.grid_update_steps.proofs.write_grid.Statement.{statement}
 use Rattle.grid_update_steps.proofs.write_grid.Tie as tie
 
@@ -75,18 +75,18 @@ returns : tie.Need-returns
 returns c =
     let by_values = c.before.before in
     let by-header = by_values.before.before.before.before in
-    let by-columns = by-header.before.before.before.before.before in
-    let by_rows = by-columns.before.before.before.before in
-    let by_size = by_rows.before.before.before.before in
+    let by_columns_lem = by-header.before.before.before.before.before in
+    let by_rows_lem = by_columns_lem.before.before.before.before in
+    let by_size = by_rows_lem.before.before.before.before in
     let s = by_size.before.before.before.before in
     let a = s.args in
     let h : List ℕ = a.header.now in
     let rest : take (length h - 12) (drop 12 h) ≡ drop 12 h = take_all (length h - 12) (drop 12 h) (omega (arith, length-drop 12 h)) in
-    grid-stored a.order h a.rows a.columns a.values.now a.file.now (4 * a.at) s.requires.0
+    grid_stored a.order h a.rows a.columns a.values.now a.file.now (4 * a.at) s.requires.0
     by_size.write-number.ensures
-    by_rows.write-number2.ensures
-    by-columns.write-number3.ensures
-    (by-header.write_bytes.ensures ∙ ap (sets by-columns.write-number3.new.1.1.0 (4 * a.at + 12)) rest)
+    by_rows_lem.write-number2.ensures
+    by_columns_lem.write-number3.ensures
+    (by-header.write_bytes.ensures ∙ ap (sets by_columns_lem.write-number3.new.1.1.0 (4 * a.at + 12)) rest)
     by_values.write-values.ensures
 
 pub write-grid-spec : {M : Type 1} → statement M

@@ -9,7 +9,7 @@ use lib.ListN.{length, get_or, take}
 use lib.Seq.{sets, length-sets, take_all}
 use mir.Syntax.{w32}
 use mir.Val.{of_z}
-use Rattle.endian_rules.specs.Words.{encodeSigned}
+use Rattle.endian_rules.specs.Words.{encode_signed}
 use Rattle.endian_rules.specs.Files.{bytes_of}
 use Rattle.endian_rules.proofs.Signs.{same_word}
 use Rattle.grid_update_rules.proofs.Bytes.{signed-behind}
@@ -56,7 +56,7 @@ loop-again c =
     let i = c.before.before.before.before.before.before.loop in
     let same = same_word (get_or a.values.now i.i (pos 0)) c.before.before.before.write-signed-arg2.given in
     signed-behind a.order a.file.now a.at a.values.now i.i (pos 0) c.before.before.before.before.before.loop-test.true i.invariant
-    (c.before.before.write-signed.ensures ∙ ap (λ (z : ℤ). sets i.file (a.at + 4 * i.i) (encodeSigned a.order z)) same)
+    (c.before.before.write-signed.ensures ∙ ap (λ (z : ℤ). sets i.file (a.at + 4 * i.i) (encode_signed a.order z)) same)
 
 same_length : tie.Need-same-length invariant-loop decreases-loop
 same_length c = ap length c.before.loop.invariant ∙ simp length-sets

@@ -40,10 +40,10 @@ use denote.Triple.Table.{cited}
 use denote.Triple.Walked.{says, ends_at}
 use Rattle.endian_rules.specs.declared.Order.{Order}
 use Rattle.endian_rules.specs.contracts.Order as O
-use Rattle.extent_rules.specs.Steps.{runsOver, searchedOver}
+use Rattle.extent_rules.specs.Steps.{runs_over, searched_over}
 use Rattle.extent_rules.specs.declared.Extent.{Extent}
 use Rattle.extent_rules.specs.contracts.Extent as X
-use Rattle.extent_table_steps.proofs.Extents.{extent-value, extent-tells, lawful, makes, extent-told, order_value, makes-order, an-order, an-extent}
+use Rattle.extent_table_steps.proofs.Extents.{extent-value, extent_tells, lawful, makes, extent_told, order-value, makes_order, an_order, an_extent}
 use Rattle.extent_table_steps.proofs.fill.Met as fill-met
 use Rattle.extent_table_steps.proofs.fill.Symbol as fill-def
 use Rattle.extent_table_steps.proofs.fill.Symbol.{name as #fill}
@@ -54,10 +54,10 @@ use Rattle.extent_table_steps.proofs.search.Symbol.{name as #search}
 use Rattle.grid_update_rules.specs.declared.AddAnswer.{AddAnswer}
 use Rattle.grid_update_rules.specs.contracts.AddAnswer as S
 use Rattle.grid_update_rules.proofs.AddAnswer.TheLaws as S'
-use Rattle.grid_update_rules.specs.Steps.{additionSays, addPlan, addStep}
+use Rattle.grid_update_rules.specs.Steps.{addition_says, add_plan, add_step}
 use Rattle.grid_update_rules.specs.declared.AddPlan.{AddPlan}
 use Rattle.grid_update_rules.specs.declared.AdditionStep.{AdditionStep}
-use Rattle.grid_update_rules.proofs.Calls.{plan-may-fill, plan-ready, add-may-fill, add_done}
+use Rattle.grid_update_rules.proofs.Calls.{plan_may_fill, plan_ready, add_may_fill, add_done}
 use Rattle.grid_update_rules.specs.contracts.AddPlan as P
 use Rattle.grid_update_rules.proofs.AddPlan.TheLaws as P'
 use Rattle.grid_update_rules.specs.contracts.AdditionStep as D
@@ -70,14 +70,14 @@ use Rattle.grid_update_steps.specs.contracts.plan_add as plans
 use Rattle.grid_update_steps.proofs.plan_add.Met as plans-met
 use Rattle.grid_update_steps.proofs.plan_add.Symbol as plans-def
 use Rattle.grid_update_steps.proofs.plan_add.Symbol.{name as #plans}
-use Rattle.walks.proofs.Calls.{at_value, Yields, yields, calls-into}
+use Rattle.walks.proofs.Calls.{at_value, Yields, yields, calls_into}
 use Rattle.walks.proofs.Contracts.{Contracted}
 use Rattle.walks.proofs.Held.{HasSlice, counts}
-use Rattle.walks.proofs.Known.{Parameter, shared, record_of, number, by_value, seen, held, knowns, stays, rows, Related, typed}
-use Rattle.walks.proofs.LentCalls.{lends-mut, lends_shr, lends_both}
+use Rattle.walks.proofs.Known.{Parameter, shared, record_of_lem, number, by_value, seen, held, knowns, stays, rows, Related, typed}
+use Rattle.walks.proofs.LentCalls.{lends_mut, lends_shr, lends_both}
 use Rattle.walks.proofs.Locals.{env, holding, starts, frees_all, at}
 use Rattle.walks.proofs.Proved.{Finished, proved}
-use Rattle.walks.proofs.Slices.{member, lends-on}
+use Rattle.walks.proofs.Slices.{member, lends_on}
 use Rattle.grid_updates.proofs.Filling.{Filling, fills}
 use Rattle.grid_updates.specs.contracts.add as self
 use Rattle.grid_updates.proofs.add.Code as code
@@ -110,7 +110,7 @@ parts d w is = LL.owed D.the_type D'.the_laws d (addition d ∷ []) (at_value D.
 
 -- the file, the order, the header, the rows and the columns, the values, and the table
 abbrev params : List (Parameter 4)
-params = held 0 tt u8 ∷ by_value an-order ∷ seen 1 tt u8 ∷ by_value (number w32) ∷ by_value (number w32) ∷ seen 2 tt i32 ∷ held 3 tt X.the_row ∷ []
+params = held 0 tt u8 ∷ by_value an_order ∷ seen 1 tt u8 ∷ by_value (number w32) ∷ by_value (number w32) ∷ seen 2 tt i32 ∷ held 3 tt X.the_row ∷ []
 
 -- the contracts of `plan_add`, `search` and `add_at`
 module _ {M : Type 1} {𝓤 : Ura M} (𝓛 : Logic 𝓤) (mem : Memory → SProp 𝓤) (runs : Routine → Fun 𝓤) where
@@ -168,25 +168,25 @@ module _ (κs : Lfts 4) (a : Args self.signature κs) where
   size = length table.now
 
   abbrev passed : List Val
-  passed = fv ∷ order_value order ∷ hv ∷ vint w32 in_rows ∷ vint w32 columns ∷ vv ∷ tv ∷ []
+  passed = fv ∷ order-value order ∷ hv ∷ vint w32 in_rows ∷ vint w32 columns ∷ vv ∷ tv ∷ []
 
   abbrev vals : Vals self.signature κs
-  vals = (fv ∷ [], (order_value order ∷ [], (hv ∷ [], (vint w32 in_rows ∷ [], (vint w32 columns ∷ [], (vv ∷ [], (tv ∷ [], tt)))))))
+  vals = (fv ∷ [], (order-value order ∷ [], (hv ∷ [], (vint w32 in_rows ∷ [], (vint w32 columns ∷ [], (vv ∷ [], (tv ∷ [], tt)))))))
 
   -- ---- the calls that the code makes, where Z is what is wanted of the function's answer
   module _ {M : Type 1} (𝓤 : Ura M) (H : Heap 𝓤) (C : Calls 𝓤 H) (Z : Val → SProp 𝓤) where
     abbrev Fills : AdditionStep → SProp 𝓤
-    Fills d = C #fill (tv ∷ fv ∷ order_value order ∷ vint w64 d.count ∷ []) (Yields 𝓤 H Nothing (λ _. Z (answer d.answer)))
+    Fills d = C #fill (tv ∷ fv ∷ order-value order ∷ vint w64 d.count ∷ []) (Yields 𝓤 H Nothing (λ _. Z (answer d.answer)))
 
     abbrev Adds : AddPlan → Extent → SProp 𝓤
-    Adds p e = C #adds (fv ∷ order_value order ∷ hv ∷ vint w32 in_rows ∷ vint w32 columns ∷ vv ∷ vint w64 size ∷ plan-value p ∷ extent-value e ∷ [])
+    Adds p e = C #adds (fv ∷ order-value order ∷ hv ∷ vint w32 in_rows ∷ vint w32 columns ∷ vv ∷ vint w64 size ∷ plan-value p ∷ extent-value e ∷ [])
         (Yields 𝓤 H D.the_row Fills)
 
     abbrev Searches : AddPlan → SProp 𝓤
-    Searches p = C #search (tv ∷ fv ∷ order_value order ∷ vint w64 p.count ∷ vint w64 p.need ∷ []) (Yields 𝓤 H X.the_row (Adds p))
+    Searches p = C #search (tv ∷ fv ∷ order-value order ∷ vint w64 p.count ∷ vint w64 p.need ∷ []) (Yields 𝓤 H X.the_row (Adds p))
 
     abbrev Plans : SProp 𝓤
-    Plans = C #plans (fv ∷ order_value order ∷ vint w64 headers ∷ vint w32 in_rows ∷ vint w32 columns ∷ vint w64 points ∷ vint w64 size ∷ [])
+    Plans = C #plans (fv ∷ order-value order ∷ vint w64 headers ∷ vint w32 in_rows ∷ vint w32 columns ∷ vint w64 points ∷ vint w64 size ∷ [])
         (Yields 𝓤 H P.the_row Searches)
 
   -- ---- of the arguments' relations
@@ -213,30 +213,30 @@ module _ (κs : Lfts 4) (a : Args self.signature κs) where
     walk are Z =
         qed 𝓛 (later (raw (Plans 𝓤 H C Z)) ∷ []) ∵ starts 𝓛 ! C Λ code.function passed Z (typed κs 𝓛 (knowns params) a are) (λ l.
         -- [the call; _0; …; _26; …]: local j stands at 1 + 2 · j
-        await ! tt $ lends-on ! 3 23 25 refl refl refl refl refl refl (tt, tt) refl refl refl (tt, (tt, (record { fits = file-fits are }, tt))) $
+        await ! tt $ lends_on ! 3 23 25 refl refl refl refl refl refl (tt, tt) refl refl refl (tt, (tt, (record { fits = file-fits are }, tt))) $
         assigns ! (of_opd ! (member ! 7 1 refl refl refl)) (from ! (stop !)) (init ! 27 refl (tt, record { fits = header-fits are })) $
         assigns ! (of_opd ! (member ! 13 1 refl refl refl)) (from ! (stop !)) (init ! 29 refl (tt, record { fits = values-fits are })) $
         assigns ! (of_opd ! (member ! 15 1 refl refl refl)) (from ! (stop !)) (init ! 31 refl (tt, record { fits = table_fits are })) $
-        calls-into ! fm 17 P.the_row plan-value (LL.tells P.the_type P'.the_laws) (Searches 𝓤 H C Z)
+        calls_into ! fm 17 P.the_row plan-value (LL.tells P.the_type P'.the_laws) (Searches 𝓤 H C Z)
         (and_then ! (at ! 25 refl) (and_then ! (at ! 5 refl)
         (and_then ! (at ! 27 refl) (and_then ! (at ! 9 refl) (and_then ! (at ! 11 refl) (and_then ! (at ! 29 refl) (and_then ! (at ! 31 refl) (no_more !))))))))
         (λ _. refl) (λ p is. ((LL.lawful P.the_type P'.the_laws 𝓛).typed p _ is).0) (λ p ip.
-        lends-on ! 15 33 35 refl refl refl refl refl refl (tt, tt) refl refl refl (tt, (tt, (record { fits = table_fits are }, tt))) $
-        lends-on ! 3 37 39 refl refl refl refl refl refl (tt, tt) refl refl refl (tt, (tt, (record { fits = file-fits are }, tt))) $
-        calls-into ! fm 19 X.the_row extent-value extent-tells (Adds 𝓤 H C Z p)
+        lends_on ! 15 33 35 refl refl refl refl refl refl (tt, tt) refl refl refl (tt, (tt, (record { fits = table_fits are }, tt))) $
+        lends_on ! 3 37 39 refl refl refl refl refl refl (tt, tt) refl refl refl (tt, (tt, (record { fits = file-fits are }, tt))) $
+        calls_into ! fm 19 X.the_row extent-value extent_tells (Adds 𝓤 H C Z p)
         (and_then ! (at ! 35 refl) (and_then ! (at ! 39 refl)
         (and_then ! (at ! 5 refl) (and_then ! (member ! 17 3 refl refl refl) (and_then ! (member ! 17 2 refl refl refl) (no_more !))))))
         (λ _. refl) (λ e is. ((lawful 𝓛).typed e _ is).0) (λ e ie.
-        lends-on ! 3 41 43 refl refl refl refl refl refl (tt, tt) refl refl refl (tt, (tt, (record { fits = file-fits are }, tt))) $
+        lends_on ! 3 41 43 refl refl refl refl refl refl (tt, tt) refl refl refl (tt, (tt, (record { fits = file-fits are }, tt))) $
         assigns ! (of_opd ! (member ! 15 1 refl refl refl)) (from ! (stop !)) (store ! 27 refl (tt, record { fits = table_fits are })) $
-        calls-into ! fm 21 D.the_row addition (LL.tells D.the_type D'.the_laws) (Fills 𝓤 H C Z)
+        calls_into ! fm 21 D.the_row addition (LL.tells D.the_type D'.the_laws) (Fills 𝓤 H C Z)
         (and_then ! (at ! 43 refl) (and_then ! (at ! 5 refl)
         (and_then ! (at ! 7 refl) (and_then ! (at ! 9 refl)
         (and_then ! (at ! 11 refl) (and_then ! (at ! 13 refl) (and_then ! (at ! 27 refl) (and_then ! (at ! 17 refl) (and_then ! (at ! 19 refl) (no_more !))))))))))
         (λ _. refl) (λ d is. ((LL.lawful D.the_type D'.the_laws 𝓛).typed d _ is).0) (λ d is.
-        lends-on ! 15 47 49 refl refl refl refl refl refl (tt, tt) refl refl refl (tt, (tt, (record { fits = table_fits are }, tt))) $
-        lends-on ! 3 51 53 refl refl refl refl refl refl (tt, tt) refl refl refl (tt, (tt, (record { fits = file-fits are }, tt))) $
-        calls-into ! fm 45 Nothing (λ _. vunit) Nothing-Tells (λ _. Z (answer d.answer))
+        lends_on ! 15 47 49 refl refl refl refl refl refl (tt, tt) refl refl refl (tt, (tt, (record { fits = table_fits are }, tt))) $
+        lends_on ! 3 51 53 refl refl refl refl refl refl (tt, tt) refl refl refl (tt, (tt, (record { fits = file-fits are }, tt))) $
+        calls_into ! fm 45 Nothing (λ _. vunit) Nothing-Tells (λ _. Z (answer d.answer))
         (and_then ! (at ! 49 refl) (and_then ! (at ! 53 refl) (and_then ! (at ! 5 refl) (and_then ! (member ! 21 1 refl refl refl) (no_more !))))) (λ _. refl)
         (λ _ _. (tt, tt)) (λ _ _. assigns ! (of_opd ! (member ! 21 0 refl refl refl)) (from ! (stop !))
         (init ! 1 refl ((EL.lawful S.the_type S'.the_laws 𝓛 tt).typed d.answer _ (parts d (addition d) is).0).0) $
@@ -277,21 +277,21 @@ module _ (κs : Lfts 4) (a : Args self.signature κs) where
     -- what the callees say: `plan_add` of its plan p, `search` of the extent e that it finds and of the table t that it leaves, and `add_at` of the addition d and of
     -- the file g that it leaves
     abbrev Planned : AddPlan → Type 0
-    Planned p = p ≡ addPlan order file.now headers in_rows columns points size
+    Planned p = p ≡ add_plan order file.now headers in_rows columns points size
 
     abbrev Found : AddPlan → Extent → List Extent → Type 0
-    Found p e t = (e, t) ≡ searchedOver order file.now p.count p.need table.now
+    Found p e t = (e, t) ≡ searched_over order file.now p.count p.need table.now
 
     abbrev Said : AdditionStep → List ℕ → Type 0
-    Said d g = (additionSays d, g) ≡ addStep order file.now header.now in_rows columns values.now size
+    Said d g = (addition_says d, g) ≡ add_step order file.now header.now in_rows columns values.now size
 
     planned : Triple 𝓤 (C #plans) (Planning 𝓛 mem runs) → ent 𝓤 (sem 𝓛 (File file.now))
-        (H.⇛ (C #plans (fv ∷ order_value order ∷ vint w64 headers ∷ vint w32 in_rows ∷ vint w32 columns ∷ vint w64 points ∷ vint w64 size ∷ [])
+        (H.⇛ (C #plans (fv ∷ order-value order ∷ vint w64 headers ∷ vint w32 in_rows ∷ vint w32 columns ∷ vint w64 points ∷ vint w64 size ∷ [])
         (Yields 𝓤 H P.the_row (λ p. guard 𝓤 (Planned p) (sem 𝓛 (File file.now))))))
     planned known = lends_shr u8 (named 0) κs.0 qs.0 file fv 𝓛 C fm file.now
-        (an-order ∷ number w64 ∷ number w32 ∷ number w32 ∷ number w64 ∷ number w64 ∷ []) P.the_row
+        (an_order ∷ number w64 ∷ number w32 ∷ number w32 ∷ number w64 ∷ number w64 ∷ []) P.the_row
         (plans.clauses 𝓛 mem runs) (λ _. (order, (headers, (in_rows, (columns, (points, (size, tt))))))) #plans known
-        (order_value order ∷ vint w64 headers ∷ vint w32 in_rows ∷ vint w32 columns ∷ vint w64 points ∷ vint w64 size ∷ []) (λ _. refl)
+        (order-value order ∷ vint w64 headers ∷ vint w32 in_rows ∷ vint w32 columns ∷ vint w64 points ∷ vint w64 size ∷ []) (λ _. refl)
         (λ _. (
           are.1.0,
           ((refl, header-fits are), (are.1.1.1.0, (are.1.1.1.1.0, ((refl, values-fits are), ((refl, table_fits are), tt))))),
@@ -301,39 +301,39 @@ module _ (κs : Lfts 4) (a : Args self.signature κs) where
     found : Triple 𝓤 (C #search) (Searching 𝓛 mem runs) → (p : AddPlan)
         → Is usize p.count (vint w64 p.count ∷ []) × Is usize p.need (vint w64 p.need ∷ []) → Planned p
         → ent 𝓤 (⋆ 𝓛 (‵ (Table table.now) ∷ ‵ (File file.now) ∷ []))
-        (H.⇛ (C #search (tv ∷ fv ∷ order_value order ∷ vint w64 p.count ∷ vint w64 p.need ∷ [])
+        (H.⇛ (C #search (tv ∷ fv ∷ order-value order ∷ vint w64 p.count ∷ vint w64 p.need ∷ [])
         (Yields 𝓤 H X.the_row (λ e. ex 𝓤 (λ (t : List Extent). guard 𝓤 (Found p e t) (sep 𝓤 (sem 𝓛 (Table t)) (sem 𝓛 (File file.now))))))))
     found known p sizes eq = lends_both X.the_row u8 (named 3) (named 0) κs.1.1.1.0 κs.0 qs.1.1.1.0 qs.0 table file tv fv 𝓛 C fm table.now
         file.now
-        (an-order ∷ number w64 ∷ number w64 ∷ []) X.the_row (search.clauses 𝓛 mem runs) (λ _. (order, (p.count, (p.need, tt)))) #search known
-        (order_value order ∷ vint w64 p.count ∷ vint w64 p.need ∷ []) (λ _. refl) (λ _. (are.1.0, (sizes.0, (sizes.1, tt))))
-        (λ ν μ δ ε. tt) (λ ν μ δ ε. fact_i 𝓤 _ (emp 𝓤) (plan-may-fill order file.now headers in_rows columns points table.now p eq)) (Found p) (λ ν μ δ ε e z.
+        (an_order ∷ number w64 ∷ number w64 ∷ []) X.the_row (search.clauses 𝓛 mem runs) (λ _. (order, (p.count, (p.need, tt)))) #search known
+        (order-value order ∷ vint w64 p.count ∷ vint w64 p.need ∷ []) (λ _. refl) (λ _. (are.1.0, (sizes.0, (sizes.1, tt))))
+        (λ ν μ δ ε. tt) (λ ν μ δ ε. fact_i 𝓤 _ (emp 𝓤) (plan_may_fill order file.now headers in_rows columns points table.now p eq)) (Found p) (λ ν μ δ ε e z.
         id⊢ 𝓤 _)
 
     added : Triple 𝓤 (C #adds) (Adding 𝓛 mem runs) → (p : AddPlan) (e : Extent) (t : List Extent) → Is P.the_row p (plan-value p ∷ [])
         → Is X.the_row e (extent-value e ∷ []) → Planned p → Found p e t
         → ent 𝓤 (⋆ 𝓛 (‵ (File file.now) ∷ raw (toks 𝓛 2 κs' qs') ∷ raw (sep 𝓤 (sem 𝓛 Header) (sem 𝓛 Values)) ∷ []))
-        (H.⇛ (C #adds (fv ∷ order_value order ∷ hv ∷ vint w32 in_rows ∷ vint w32 columns ∷ vv ∷ vint w64 size ∷ plan-value p ∷ extent-value e ∷ [])
+        (H.⇛ (C #adds (fv ∷ order-value order ∷ hv ∷ vint w32 in_rows ∷ vint w32 columns ∷ vv ∷ vint w64 size ∷ plan-value p ∷ extent-value e ∷ [])
         (Yields 𝓤 H D.the_row (λ d. ex 𝓤 (λ (g : List ℕ). guard 𝓤 (Said d g) (sep 𝓤 (sem 𝓛 (File g)) (toks 𝓛 2 κs' qs')))))))
     added known p e t ip ie eq-p eq-t =
-        lends-mut u8 (named 0) κs.0 qs.0 file fv 𝓛 C fm file.now 2 κs' qs'
-        (an-order.known ∷ shared 1 tt u8 ∷ (number w32).known ∷ (number w32).known ∷ shared 2 tt i32 ∷ (number w64).known ∷ record_of P.the_type P'.the_laws
-        ∷ an-extent.known ∷ []) D.the_row (adds.clauses 𝓛 mem runs) (λ _. (order, (header, (in_rows, (columns, (values, (size, (p, (e, tt)))))))))
+        lends_mut u8 (named 0) κs.0 qs.0 file fv 𝓛 C fm file.now 2 κs' qs'
+        (an_order.known ∷ shared 1 tt u8 ∷ (number w32).known ∷ (number w32).known ∷ shared 2 tt i32 ∷ (number w64).known ∷ record_of_lem P.the_type P'.the_laws
+        ∷ an_extent.known ∷ []) D.the_row (adds.clauses 𝓛 mem runs) (λ _. (order, (header, (in_rows, (columns, (values, (size, (p, (e, tt)))))))))
         #adds known
-        (order_value order ∷ hv ∷ vint w32 in_rows ∷ vint w32 columns ∷ vv ∷ vint w64 size ∷ plan-value p ∷ extent-value e ∷ []) (λ _. refl)
+        (order-value order ∷ hv ∷ vint w32 in_rows ∷ vint w32 columns ∷ vv ∷ vint w64 size ∷ plan-value p ∷ extent-value e ∷ []) (λ _. refl)
         (sep 𝓤 (sem 𝓛 Header) (sem 𝓛 Values))
         (λ _. qed 𝓛 ((‵ Header ⊛ ‵ Values) ∷ []) ∵ split ! $ nothing ! $ owned ! X.the_row (Is X.the_row) (makes 𝓛) e _ ie $ fjoin ! $
         owned ! P.the_row (Is P.the_row) (LL.makes P.the_type P'.the_plain 𝓛) p _ ip $ fjoin ! $
         owned ! usize (Is usize) (uint_Makes 𝓛 w64) size _ (refl, table_fits are) $ fjoin ! $ move ! (2 ∷ 0 ∷ []) $ fjoin ! $
         owned ! u32 (Is u32) (uint_Makes 𝓛 w32) columns _ are.1.1.1.1.0 $ fjoin ! $
         owned ! u32 (Is u32) (uint_Makes 𝓛 w32) in_rows _ are.1.1.1.0 $ fjoin ! $ move ! (1 ∷ 0 ∷ []) $ fjoin ! $
-        owned ! O.the_row (Is O.the_row) (makes-order 𝓛) order _ are.1.0 $ fjoin ! $ done !)
-        (λ ν δ. tt) (λ ν δ. fact_i 𝓤 _ (emp 𝓤) (plan-ready order file.now header.now in_rows columns values.now table.now p e eq-p
+        owned ! O.the_row (Is O.the_row) (makes_order 𝓛) order _ are.1.0 $ fjoin ! $ done !)
+        (λ ν δ. tt) (λ ν δ. fact_i 𝓤 _ (emp 𝓤) (plan_ready order file.now header.now in_rows columns values.now table.now p e eq-p
         (ap (λ (z : Extent × List Extent). z.0) eq-t))) Said (λ ν δ d z. id⊢ 𝓤 _)
 
     -- at the end: the answer of d, the file g, and the table t', which was t after the search
     exits : (p : AddPlan) (d : AdditionStep) (w : Val) (g : List ℕ) (t t' : List Extent) → Is D.the_row d (w ∷ []) → Planned p
-        → t ≡ runsOver order file.now p.count table.now → Said d g → t' ≡ runsOver order g d.count t
+        → t ≡ runs_over order file.now p.count table.now → Said d g → t' ≡ runs_over order g d.count t
         → ent 𝓤 (⋆ 𝓛 (‵ (Table t') ∷ ‵ (File g) ∷ Tokens ∷ [])) (Post (answer d.answer))
     exits p d w g t t' is eq-p eq-t eq Filled-is =
         qed 𝓛 (‵ (Table t') ∷ ‵ (File g) ∷ Tokens ∷ []) ∵ counts X.the_row (named 3) κs.1.1.1.0 qs.1.1.1.0 table tv ! t' (table_is are)
@@ -370,16 +370,16 @@ module _ (κs : Lfts 4) (a : Args self.signature κs) where
         use1 𝓛 (some (λ (t : List Extent). given (Found p e t) (‵ (Table t) ⊛ ‵ (File file.now)))) (id⊢ 𝓤 _) $ pick ! (λ t. learn ! (λ eq-t. split ! $
         counts X.the_row (named 3) κs.1.1.1.0 qs.1.1.1.0 table tv ! t (table_is are) (λ as_long. fjoin ! $ move ! (1 ∷ 2 ∷ 3 ∷ []) $
         -- [the file; the tokens; what the header and the values own; the table]
-        use3 𝓛 (later (raw (C #adds _ _))) (added known-adds p e t (plan-is p w ip) (extent-told e x ie) eq-p eq-t) $ await ! tt $ at_once ! $
+        use3 𝓛 (later (raw (C #adds _ _))) (added known-adds p e t (plan-is p w ip) (extent_told e x ie) eq-p eq-t) $ await ! tt $ at_once ! $
         yields ! fm D.the_row (Fills 𝓤 H C Post) (λ d y is.
         use1 𝓛 (some (λ (g : List ℕ). given (Said d g) (‵ (File g) ⊛ Tokens))) (id⊢ 𝓤 _) $ pick ! (λ g. learn ! (λ eq. split ! $
-        let may-fill = add-may-fill order file.now header.now in_rows columns values.now table.now d g eq in
+        let may_fill = add_may_fill order file.now header.now in_rows columns values.now table.now d g eq in
         -- [the file; the tokens; the table]
         move ! (2 ∷ 0 ∷ []) $ use2 𝓛 (later (raw (C #fill _ _)))
         (fills (named 3) (named 0) κs.1.1.1.0 κs.0 qs.1.1.1.0 qs.0 table file tv fv 𝓛 C fm t g mem runs order d.count
-        known-fill are.1.0 (parts d y is).1.0 (subst (λ (m : ℕ). d.count ≤ m) (sym as_long) may-fill.0, may-fill.1)) $ await ! tt $ at_once ! $
+        known-fill are.1.0 (parts d y is).1.0 (subst (λ (m : ℕ). d.count ≤ m) (sym as_long) may_fill.0, may_fill.1)) $ await ! tt $ at_once ! $
         yields ! fm Nothing (λ _. Post (answer d.answer)) (λ _ _ _.
-        use1 𝓛 (some (λ (t' : List Extent). given (t' ≡ runsOver order g d.count t) (‵ (Table t') ⊛ ‵ (File g)))) (id⊢ 𝓤 _) $
+        use1 𝓛 (some (λ (t' : List Extent). given (t' ≡ runs_over order g d.count t) (‵ (Table t') ⊛ ‵ (File g)))) (id⊢ 𝓤 _) $
         pick ! (λ t'. learn ! (λ Filled-is. split ! $ at_once ! $
         by ! (exits p d y g t t' is eq-p (ap (λ (z : Extent × List Extent). z.1) eq-t) eq Filled-is)))))))))))))
 

@@ -3,12 +3,12 @@
 use mathlib.Core.Path.{◌≡◌, sym, ◌∙◌}
 use native.Mathlib.Omega.{arith}
 use borrow.Author.Rules.{rules}
-use Rattle.refusal_rules.specs.Rules.{firstFault}
+use Rattle.refusal_rules.specs.Rules.{first_fault}
 use Rattle.extent_rules.specs.Steps.{GridAccepted}
-use Rattle.extent_rules.proofs.Slots.{accepted-slots}
-use Rattle.grid_update_rules.specs.Updates.{stretchRules}
-use Rattle.grid_update_rules.specs.Steps.{tellStep}
-use Rattle.grid_update_rules.proofs.Verdicts.{stretch-file, stretch-table, counted-pass, counted-fault}
+use Rattle.extent_rules.proofs.Slots.{accepted_slots}
+use Rattle.grid_update_rules.specs.Updates.{stretch_rules}
+use Rattle.grid_update_rules.specs.Steps.{tell_step}
+use Rattle.grid_update_rules.proofs.Verdicts.{stretch_file, stretch_table, counted_pass, counted_fault}
 use Rattle.grid_updates.proofs.count_stretches.Statement.{statement}
 use Rattle.grid_updates.proofs.count_stretches.Tie as tie
 
@@ -26,13 +26,13 @@ passed : (c : tie.After-enum-told) → let a = c.before.before.before.before.arg
 passed c = sym c.before.before.file-verdict.ensures ∙ c.enum_told.given.1
 
 -- what all checks say
-checked : (c : tie.After-check) → let a = c.before.before.before.before.before.before.args in c.check.result ≡ firstFault (stretchRules a.order a.file.now a.size)
+checked : (c : tie.After-check) → let a = c.before.before.before.before.before.before.args in c.check.result ≡ first_fault (stretch_rules a.order a.file.now a.size)
 checked c =
     let a = c.before.before.before.before.before.before.args in
-    rw (c.check.ensures, c.before.read_word.ensures) (stretch-table a.order a.file.now a.size (passed c.before.before))
+    rw (c.check.ensures, c.before.read_word.ensures) (stretch_table a.order a.file.now a.size (passed c.before.before))
 
 read-word-requires : tie.Need-read-word-requires
-read-word-requires c κs = let a = c.before.before.before.before.args in omega (arith, (accepted-slots a.order a.file.now (passed c)).room)
+read-word-requires c κs = let a = c.before.before.before.before.args in omega (arith, (accepted_slots a.order a.file.now (passed c)).room)
 
 cast-n : tie.Need-overflow-cast-n
 cast-n c = search rules
@@ -53,24 +53,24 @@ survey-free-requires : tie.Need-survey-free-requires
 survey-free-requires c κs = passed c.before.before.before.before
 
 returns : tie.Need-returns
-unfolding tellStep
+unfolding tell_step
 returns c =
     let a = c.before.before.before.before.before.args in
-    counted-fault (firstFault (stretchRules a.order a.file.now a.size)) _ a.order a.file.now _
-    (sym (stretch-file a.order a.file.now a.size _ (sym c.before.before.before.file-verdict.ensures ∙ c.before.refusal.given.1)))
+    counted_fault (first_fault (stretch_rules a.order a.file.now a.size)) _ a.order a.file.now _
+    (sym (stretch_file a.order a.file.now a.size _ (sym c.before.before.before.file-verdict.ensures ∙ c.before.refusal.given.1)))
 
 returns-2 : tie.Need-returns-2
-unfolding tellStep
+unfolding tell_step
 returns-2 c =
     let a = c.before.before.before.before.before.before.before.before.before.args in
-    counted-fault (firstFault (stretchRules a.order a.file.now a.size)) _ a.order a.file.now _
+    counted_fault (first_fault (stretch_rules a.order a.file.now a.size)) _ a.order a.file.now _
     (sym (checked c.before.before.before) ∙ c.before.refusal2.given.1)
 
 returns-3 : tie.Need-returns-3
-unfolding tellStep
+unfolding tell_step
 returns-3 c =
     let a = c.before.before.before.before.before.before.before.before.before.args in
-    counted-pass (firstFault (stretchRules a.order a.file.now a.size)) _ a.order a.file.now
+    counted_pass (first_fault (stretch_rules a.order a.file.now a.size)) _ a.order a.file.now
     (sym (checked c.before.before.before) ∙ c.before.enum-told2.given.1) _ c.survey-free.ensures
 
 pub count-stretches-spec : {M : Type 1} → statement M

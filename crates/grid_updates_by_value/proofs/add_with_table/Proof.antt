@@ -33,20 +33,20 @@ use denote.Triple.End.{all}
 use denote.Triple.Entry.{Args, Vals}
 use denote.Triple.Statement.{Triple}
 use denote.Triple.Table.{entered, cited}
-use Rattle.extent_rules.specs.Stretches.{noWords}
+use Rattle.extent_rules.specs.Stretches.{no_words}
 use Rattle.extent_rules.specs.declared.Extent.{Extent}
 use Rattle.extent_rules.specs.contracts.Extent as X
-use Rattle.extent_table_steps.proofs.Extents.{lawful, an-order}
+use Rattle.extent_table_steps.proofs.Extents.{lawful, an_order}
 use Rattle.grid_updates.specs.contracts.add as callee
 use Rattle.grid_updates.proofs.add.Symbol as callee-def
 use Rattle.grid_updates.proofs.add.Met as callee-thm
 use Rattle.walks.proofs.Contracts.{entering}
-use Rattle.walks.proofs.Known.{Known, lent, shared, slots, rows, spells, tells, passed-as, Related, typed, number}
-use Rattle.walks.proofs.Locals.{holding, starts, frees_all, at as at_local, big-lit}
-use Rattle.walks.proofs.Rows.{tokens-of, owned-of, lasts-of, with-lft, with-share, with-arg, with-val, enters-with, comes-with}
-use Rattle.walks.proofs.Slices.{lends-on}
-use Rattle.grid_updates_by_value.proofs.Calls.{Call, Own, Callee, pair, Types, Landed, Lends, leaves, Returns, lends-call}
-use Rattle.grid_updates_by_value.proofs.Lent.{none_is, fresh-room, fresh-table, lent_at, τ, table-typed}
+use Rattle.walks.proofs.Known.{Known, lent, shared, slots, rows, spells, tells, passed_as, Related, typed, number}
+use Rattle.walks.proofs.Locals.{holding, starts, frees_all, at as at_local, big_lit}
+use Rattle.walks.proofs.Rows.{tokens_of, owned_of, lasts_of, with_lft, with_share, with_arg, with_val, enters_with, comes_with}
+use Rattle.walks.proofs.Slices.{lends_on}
+use Rattle.grid_updates_by_value.proofs.Calls.{Call, Own, Callee, pair, Types, Landed, Lends, leaves, Returns, lends_call}
+use Rattle.grid_updates_by_value.proofs.Lent.{none_is, fresh_room, fresh_table, lent_at, τ, table_typed}
 use Rattle.grid_updates_by_value.proofs.Structs.{addition}
 use Rattle.grid_updates_by_value.specs.contracts.add_with_table as self
 use Rattle.grid_updates_by_value.proofs.add_with_table.Code as code
@@ -55,10 +55,10 @@ use Rattle.grid_updates_by_value.proofs.add_with_table.Statement.{statement}
 
 -- what the function is passed, and its callee
 abbrev params : List (Known 3)
-params = lent 0 tt u8 ∷ an-order.known ∷ shared 1 tt u8 ∷ (number w32).known ∷ (number w32).known ∷ shared 2 tt i32 ∷ []
+params = lent 0 tt u8 ∷ an_order.known ∷ shared 1 tt u8 ∷ (number w32).known ∷ (number w32).known ∷ shared 2 tt i32 ∷ []
 
-abbrev callee-params : List (Known 4)
-callee-params = lent 0 tt u8 ∷ an-order.known ∷ shared 1 tt u8 ∷ (number w32).known ∷ (number w32).known ∷ shared 2 tt i32 ∷ lent 3 tt X.the_row ∷ []
+abbrev callee_params : List (Known 4)
+callee_params = lent 0 tt u8 ∷ an_order.known ∷ shared 1 tt u8 ∷ (number w32).known ∷ (number w32).known ∷ shared 2 tt i32 ∷ lent 3 tt X.the_row ∷ []
 
 -- the machine values that the function is passed, and those that it passes on, where the table lies at b
 module _ (κs : Lfts 3) (a : Args self.signature κs) where
@@ -77,10 +77,10 @@ module _ {M : Type 1} {𝓤 : Ura M} (𝓛 : Logic 𝓤) (mem : Memory → SProp
     lifetimes = 3;
     params = params;
     clauses = self.clauses 𝓛 mem run;
-    callee-lifetimes = 4;
-    callee-params = callee-params;
-    callee-clauses = callee.clauses 𝓛 mem run;
-    table-lifetime = named 3;
+    callee_lifetimes = 4;
+    callee_params = callee_params;
+    callee_clauses = callee.clauses 𝓛 mem run;
+    table_lifetime = named 3;
   }
 
   module _ (κs : Lfts 3) (qs : Shares 3) (a : Args self.signature κs) where
@@ -93,19 +93,19 @@ module _ {M : Type 1} {𝓤 : Ura M} (𝓛 : Logic 𝓤) (mem : Memory → SProp
       Borrowed = MutSlice (named 3) (ν ∷ []) X.the_row
 
       abbrev λs : Lfts 4
-      λs = with-lft 3 κs (ν ∷ [])
+      λs = with_lft 3 κs (ν ∷ [])
 
       abbrev args : Args callee.signature λs
-      args = with-arg (rows κs params) Borrowed a (lent_at b γ (replicate 1025 noWords))
+      args = with_arg (rows κs params) Borrowed a (lent_at b γ (replicate 1025 no_words))
 
       abbrev to : (Callee 𝓛 call).Ghost
-      to = ((λs, with-share 3 qs full_share, tt, args, with-val (rows κs params) Borrowed (at κs a) (slice_val (b, 0) 1025 ∷ [])), tt)
+      to = ((λs, with_share 3 qs full_share, tt, args, with_val (rows κs params) Borrowed (at κs a) (slice_val (b, 0) 1025 ∷ [])), tt)
 
     module _ (b : ℕ) where
-      lends : Lends 𝓛 call y fresh-table b (to b)
+      lends : Lends 𝓛 call y fresh_table b (to b)
       lends ν γ =
-          enters-with 𝓛 (tokens-of 3 κs qs) (owned-of (rows κs params) a (at κs a)) []
-          (flft (ν ∷ []) full_share) ((Borrowed b ν γ).own_val (lent_at b γ (replicate 1025 noWords)) (slice_val (b, 0) 1025 ∷ []))
+          enters_with 𝓛 (tokens_of 3 κs qs) (owned_of (rows κs params) a (at κs a)) []
+          (flft (ν ∷ []) full_share) ((Borrowed b ν γ).own_val (lent_at b γ (replicate 1025 no_words)) (slice_val (b, 0) 1025 ∷ []))
 
       -- what the callee ensures, of an answer and of last values, is what the function does, of these and of the last table
       said : (ν : ℕ) (γ : GName) (r : addition.answer.Denot) (ws : Lasts callee.ended (λs b ν γ) (args b ν γ))
@@ -113,37 +113,37 @@ module _ {M : Type 1} {𝓤 : Ura M} (𝓛 : Logic 𝓤) (mem : Memory → SProp
           ((self.clauses 𝓛 mem run κs a).ensures tt (record { answer = r; table = ws.1.1.1.1.1.1.0 }) (at_exit self.ended κs a (ws.0, (tt, (tt, (tt, (tt, (tt, tt))))))))
       said ν γ r ws = id⊢ 𝓤 _
 
-      returns : Returns 𝓛 call y fresh-table b (to b)
+      returns : Returns 𝓛 call y fresh_table b (to b)
       returns ν γ r ws =
           let ys : List Extent = ws.1.1.1.1.1.1.0 in
-          via 𝓤 _ (comes-with 𝓛 (tokens-of 3 κs qs)
-          (lasts-of κs (slots params) (all yes (slots params)) a (ws.0, (tt, (tt, (tt, (tt, (tt, tt))))))) 0 (flft (ν ∷ []) full_share) (finally X.the_row γ ys)
-          (feq ℕ (length ys) (length (replicate 1025 noWords))) _ _ (said ν γ r ws))
-          (leaves 𝓛 call y fresh-table b (to b) ν γ r ys (ws.0, (tt, (tt, (tt, (tt, (tt, tt)))))))
+          via 𝓤 _ (comes_with 𝓛 (tokens_of 3 κs qs)
+          (lasts_of κs (slots params) (all yes (slots params)) a (ws.0, (tt, (tt, (tt, (tt, (tt, tt))))))) 0 (flft (ν ∷ []) full_share) (finally X.the_row γ ys)
+          (feq ℕ (length ys) (length (replicate 1025 no_words))) _ _ (said ν γ r ws))
+          (leaves 𝓛 call y fresh_table b (to b) ν γ r ys (ws.0, (tt, (tt, (tt, (tt, (tt, tt)))))))
 
       -- with the callee's theorem
       calls-lent : (C : Calls 𝓤 H) → FmC 𝓤 H 𝓛.laws C → Triple 𝓤 (C callee-def.name) (Callee 𝓛 call)
-          → ent 𝓤 (sep 𝓤 ((Own 𝓛 call).pre y) (H.at full_share (τ 1025) b 0 fresh-table.value))
+          → ent 𝓤 (sep 𝓤 ((Own 𝓛 call).pre y) (H.at full_share (τ 1025) b 0 fresh_table.value))
           (H.⇛ (C callee-def.name (passed κs a b) (Landed 𝓛 addition b ((Own 𝓛 call).post y))))
-      calls-lent C fm known = lends-call 𝓛 call y fresh-table b (to b) C fm callee-def.name known lends returns (passed κs a b) (λ ν γ. refl)
+      calls-lent C fm known = lends_call 𝓛 call y fresh_table b (to b) C fm callee-def.name known lends returns (passed κs a b) (λ ν γ. refl)
 
 module _ {M : Type 1} {𝓤 : Ura M} (𝓛 : Logic 𝓤) (C : Calls 𝓤 𝓛.H) (Λ : Loops 𝓤 𝓛.H) (fm : FmC 𝓤 𝓛.H 𝓛.laws C) where
   open 𝓛 use {H}
 
   walk : (κs : Lfts 3) (a : Args self.signature κs) → Related κs params a
       → (P : SProp 𝓤) (K : Val → SProp 𝓤)
-      → ((b : ℕ) → ent 𝓤 (sep 𝓤 P (H.at full_share (τ 1025) b 0 fresh-table.value)) (H.⇛ (C callee-def.name (passed κs a b) (Landed 𝓛 addition b K))))
-      → ent 𝓤 P (WpFn 𝓤 H C Λ code.function (passed-as κs params a) K)
+      → ((b : ℕ) → ent 𝓤 (sep 𝓤 P (H.at full_share (τ 1025) b 0 fresh_table.value)) (H.⇛ (C callee-def.name (passed κs a b) (Landed 𝓛 addition b K))))
+      → ent 𝓤 P (WpFn 𝓤 H C Λ code.function (passed_as κs params a) K)
   walk κs a are P K lent_out =
-      qed 𝓛 (raw P ∷ []) ∵ starts 𝓛 ! C Λ code.function (passed-as κs params a) K (typed κs 𝓛 params a are) (λ l.
+      qed 𝓛 (raw P ∷ []) ∵ starts 𝓛 ! C Λ code.function (passed_as κs params a) K (typed κs 𝓛 params a are) (λ l.
       let b : ℕ = l.1.1.1.1.1.1.1.0 in
       -- [P; _0; …]: local j stands at 1 + 2 · j
-      assigns ! (agg ! (and_then ! (lit ! tt) (and_then ! (lit ! tt) (no_more !)))) (from ! (stop !)) (init ! 19 refl ((lawful 𝓛).typed noWords _ none_is).0) $
-      assigns ! (rep ! 1025 (at_local ! 19 refl)) (from ! (stop !)) (init ! 15 refl (table-typed 𝓛 1025 fresh-table.start fresh-table.value fresh-table.is).0) $
-      lends-on ! 3 21 23 refl refl refl refl refl refl (tt, tt) refl refl refl (tt, (tt, (record { fits = are.0.0.1.0 }, tt))) $
+      assigns ! (agg ! (and_then ! (lit ! tt) (and_then ! (lit ! tt) (no_more !)))) (from ! (stop !)) (init ! 19 refl ((lawful 𝓛).typed no_words _ none_is).0) $
+      assigns ! (rep ! 1025 (at_local ! 19 refl)) (from ! (stop !)) (init ! 15 refl (table_typed 𝓛 1025 fresh_table.start fresh_table.value fresh_table.is).0) $
+      lends_on ! 3 21 23 refl refl refl refl refl refl (tt, tt) refl refl refl (tt, (tt, (record { fits = are.0.0.1.0 }, tt))) $
       assigns ! (addr ! (from ! (stop !))) (from ! (stop !)) (init ! 25 refl (tt, tt)) $
-      assigns ! (agg ! (and_then ! (at_local ! 25 refl) (and_then ! (big-lit ! (record { fits = fresh-room.0 })) (no_more !)))) (from ! (stop !))
-      (init ! 27 refl (tt, (tt, (record { fits = fresh-room.0 }, tt)))) $
+      assigns ! (agg ! (and_then ! (at_local ! 25 refl) (and_then ! (big_lit ! (record { fits = fresh_room.0 })) (no_more !)))) (from ! (stop !))
+      (init ! 27 refl (tt, (tt, (record { fits = fresh_room.0 }, tt)))) $
       -- the table is lent
       move ! (0 ∷ 15 ∷ []) $ use2 𝓛 (later (raw (C callee-def.name (passed κs a b) (Landed 𝓛 addition b K)))) (lent_out b) $ await ! tt $
       -- [the call; _0; …; the end of _7; _8; …]: a local j behind _7 stands at 2 · j

@@ -36,18 +36,18 @@ use denote.Triple.Statement.{Triple}
 use denote.Triple.Table.{entered, cited}
 use Rattle.extent_rules.specs.declared.Extent.{Extent}
 use Rattle.extent_rules.specs.contracts.Extent as X
-use Rattle.extent_table_steps.proofs.Extents.{an-order}
+use Rattle.extent_table_steps.proofs.Extents.{an_order}
 use Rattle.grid_updates.specs.contracts.delete as callee
 use Rattle.grid_updates.proofs.delete.Symbol as callee-def
 use Rattle.grid_updates.proofs.delete.Met as callee-thm
 use Rattle.walks.proofs.Contracts.{entering}
-use Rattle.walks.proofs.Known.{Known, lent, slots, rows, spells, tells, passed-as, Related, typed, number}
+use Rattle.walks.proofs.Known.{Known, lent, slots, rows, spells, tells, passed_as, Related, typed, number}
 use Rattle.walks.proofs.Locals.{holding, starts, frees_all, at as at_local}
-use Rattle.walks.proofs.Rows.{tokens-of, owned-of, lasts-of, with-lft, with-share, with-arg, with-val, enters-with, comes-with}
-use Rattle.walks.proofs.Slices.{lends-on}
-use Rattle.grid_updates_by_value.proofs.Calls.{Call, Own, Callee, pair, Types, Landed, Lends, leaves, Returns, lends-call}
-use Rattle.grid_updates_by_value.proofs.Lent.{OwnTable, Lendable, given-table, short-room, a-table, lent_at, τ, table-typed}
-use Rattle.grid_updates_by_value.proofs.Structs.{short-stretch-table}
+use Rattle.walks.proofs.Rows.{tokens_of, owned_of, lasts_of, with_lft, with_share, with_arg, with_val, enters_with, comes_with}
+use Rattle.walks.proofs.Slices.{lends_on}
+use Rattle.grid_updates_by_value.proofs.Calls.{Call, Own, Callee, pair, Types, Landed, Lends, leaves, Returns, lends_call}
+use Rattle.grid_updates_by_value.proofs.Lent.{OwnTable, Lendable, given_table, short_room, a_table, lent_at, τ, table_typed}
+use Rattle.grid_updates_by_value.proofs.Structs.{short_stretch_table}
 use Rattle.grid_updates_by_value.specs.contracts.delete_with_short_table as self
 use Rattle.grid_updates_by_value.proofs.delete_with_short_table.Code as code
 use Rattle.grid_updates_by_value.specs.contracts.delete_with_short_table.Key as key
@@ -55,13 +55,13 @@ use Rattle.grid_updates_by_value.proofs.delete_with_short_table.Statement.{state
 
 -- what the function is passed, and its callee
 abbrev first-params : List (Known 1)
-first-params = lent 0 tt u8 ∷ an-order.known ∷ (number w32).known ∷ []
+first-params = lent 0 tt u8 ∷ an_order.known ∷ (number w32).known ∷ []
 
 abbrev params : List (Known 1)
-params = lent 0 tt u8 ∷ an-order.known ∷ (number w32).known ∷ a-table 4 ∷ []
+params = lent 0 tt u8 ∷ an_order.known ∷ (number w32).known ∷ a_table 4 ∷ []
 
-abbrev callee-params : List (Known 2)
-callee-params = lent 0 tt u8 ∷ an-order.known ∷ (number w32).known ∷ lent 1 tt X.the_row ∷ []
+abbrev callee_params : List (Known 2)
+callee_params = lent 0 tt u8 ∷ an_order.known ∷ (number w32).known ∷ lent 1 tt X.the_row ∷ []
 
 -- the machine values that the function is passed, the table that is lent, and the values that it passes on, where the table lies at b
 module _ (κs : Lfts 1) (a : Args self.signature κs) where
@@ -78,21 +78,21 @@ module _ (κs : Lfts 1) (a : Args self.signature κs) where
   passed b = flat (rows κs first-params) first-vals ++ slice_val (b, 0) 4 ∷ []
 
   abbrev lent-table : Related κs params a → Lendable 4
-  lent-table are = given-table 4 short-room a.1.1.1.0 are.1.1.1.0
+  lent-table are = given_table 4 short_room a.1.1.1.0 are.1.1.1.0
 
 module _ {M : Type 1} {𝓤 : Ura M} (𝓛 : Logic 𝓤) (mem : Memory → SProp 𝓤) (run : Routine → Fun 𝓤) where
   open 𝓛 use {H}
 
   abbrev call : Call 𝓤 4
   call = record {
-    handed = short-stretch-table;
+    handed = short_stretch_table;
     lifetimes = 1;
     params = params;
     clauses = self.clauses 𝓛 mem run;
-    callee-lifetimes = 2;
-    callee-params = callee-params;
-    callee-clauses = callee.clauses 𝓛 mem run;
-    table-lifetime = named 1;
+    callee_lifetimes = 2;
+    callee_params = callee_params;
+    callee_clauses = callee.clauses 𝓛 mem run;
+    table_lifetime = named 1;
   }
 
   module _ (κs : Lfts 1) (qs : Shares 1) (a : Args self.signature κs) (are : Related κs params a) where
@@ -105,22 +105,22 @@ module _ {M : Type 1} {𝓤 : Ura M} (𝓛 : Logic 𝓤) (mem : Memory → SProp
       Borrowed = MutSlice (named 1) (ν ∷ []) X.the_row
 
       abbrev λs : Lfts 2
-      λs = with-lft 1 κs (ν ∷ [])
+      λs = with_lft 1 κs (ν ∷ [])
 
       abbrev args : Args callee.signature λs
-      args = with-arg (rows κs first-params) Borrowed (first κs a) (lent_at b γ a.1.1.1.0)
+      args = with_arg (rows κs first-params) Borrowed (first κs a) (lent_at b γ a.1.1.1.0)
 
       abbrev to : (Callee 𝓛 call).Ghost
-      to = ((λs, with-share 1 qs full_share, tt, args, with-val (rows κs first-params) Borrowed (first-vals κs a) (slice_val (b, 0) 4 ∷ [])), tt)
+      to = ((λs, with_share 1 qs full_share, tt, args, with_val (rows κs first-params) Borrowed (first-vals κs a) (slice_val (b, 0) 4 ∷ [])), tt)
 
     module _ (b : ℕ) where
       lends : Lends 𝓛 call y (lent-table κs a are) b (to b)
       lends ν γ =
-          enters-with 𝓛 (tokens-of 1 κs qs) (owned-of (rows κs first-params) (first κs a) (first-vals κs a)) ((OwnTable 4).own_val a.1.1.1.0 (at κs a).1.1.1.0 ∷ [])
+          enters_with 𝓛 (tokens_of 1 κs qs) (owned_of (rows κs first-params) (first κs a) (first-vals κs a)) ((OwnTable 4).own_val a.1.1.1.0 (at κs a).1.1.1.0 ∷ [])
           (flft (ν ∷ []) full_share) ((Borrowed b ν γ).own_val (lent_at b γ a.1.1.1.0) (slice_val (b, 0) 4 ∷ []))
 
       -- what the callee ensures, of an answer and of last values, is what the function does, of these and of the last table
-      said : (ν : ℕ) (γ : GName) (r : short-stretch-table.answer.Denot) (ws : Lasts callee.ended (λs b ν γ) (args b ν γ))
+      said : (ν : ℕ) (γ : GName) (r : short_stretch_table.answer.Denot) (ws : Lasts callee.ended (λs b ν γ) (args b ν γ))
           → ent 𝓤 ((callee.clauses 𝓛 mem run (λs b ν γ) (args b ν γ)).ensures tt r (at_exit callee.ended (λs b ν γ) (args b ν γ) ws))
           ((self.clauses 𝓛 mem run κs a).ensures tt (record { answer = r; table = ws.1.1.1.0 }) (at_exit self.ended κs a (ws.0, (tt, (tt, (tt, tt))))))
       said ν γ r ws = id⊢ 𝓤 _
@@ -128,39 +128,39 @@ module _ {M : Type 1} {𝓤 : Ura M} (𝓛 : Logic 𝓤) (mem : Memory → SProp
       returns : Returns 𝓛 call y (lent-table κs a are) b (to b)
       returns ν γ r ws =
           let ys : List Extent = ws.1.1.1.0 in
-          via 𝓤 _ (comes-with 𝓛 (tokens-of 1 κs qs)
-          (lasts-of κs (slots first-params) (all yes (slots first-params)) (first κs a) (ws.0, (tt, (tt, tt)))) 1 (flft (ν ∷ []) full_share) (finally X.the_row γ ys)
+          via 𝓤 _ (comes_with 𝓛 (tokens_of 1 κs qs)
+          (lasts_of κs (slots first-params) (all yes (slots first-params)) (first κs a) (ws.0, (tt, (tt, tt)))) 1 (flft (ν ∷ []) full_share) (finally X.the_row γ ys)
           (feq ℕ (length ys) (length a.1.1.1.0)) _ _ (said ν γ r ws))
           (leaves 𝓛 call y (lent-table κs a are) b (to b) ν γ r ys (ws.0, (tt, (tt, (tt, tt)))))
 
       -- with the callee's theorem
       calls-lent : (C : Calls 𝓤 H) → FmC 𝓤 H 𝓛.laws C → Triple 𝓤 (C callee-def.name) (Callee 𝓛 call)
           → ent 𝓤 (sep 𝓤 ((Own 𝓛 call).pre y) (H.at full_share (τ 4) b 0 (lent-table κs a are).value))
-          (H.⇛ (C callee-def.name (passed κs a b) (Landed 𝓛 short-stretch-table b ((Own 𝓛 call).post y))))
-      calls-lent C fm known = lends-call 𝓛 call y (lent-table κs a are) b (to b) C fm callee-def.name known lends returns (passed κs a b) (λ ν γ. refl)
+          (H.⇛ (C callee-def.name (passed κs a b) (Landed 𝓛 short_stretch_table b ((Own 𝓛 call).post y))))
+      calls-lent C fm known = lends_call 𝓛 call y (lent-table κs a are) b (to b) C fm callee-def.name known lends returns (passed κs a b) (λ ν γ. refl)
 
 module _ {M : Type 1} {𝓤 : Ura M} (𝓛 : Logic 𝓤) (C : Calls 𝓤 𝓛.H) (Λ : Loops 𝓤 𝓛.H) (fm : FmC 𝓤 𝓛.H 𝓛.laws C) where
   open 𝓛 use {H}
 
   walk : (κs : Lfts 1) (a : Args self.signature κs) → Related κs params a
       → (P : SProp 𝓤) (K : Val → SProp 𝓤)
-      → ((b : ℕ) → ent 𝓤 (sep 𝓤 P (H.at full_share (τ 4) b 0 (only (at κs a).1.1.1.0))) (H.⇛ (C callee-def.name (passed κs a b) (Landed 𝓛 short-stretch-table b K))))
-      → ent 𝓤 P (WpFn 𝓤 H C Λ code.function (passed-as κs params a) K)
+      → ((b : ℕ) → ent 𝓤 (sep 𝓤 P (H.at full_share (τ 4) b 0 (only (at κs a).1.1.1.0))) (H.⇛ (C callee-def.name (passed κs a b) (Landed 𝓛 short_stretch_table b K))))
+      → ent 𝓤 P (WpFn 𝓤 H C Λ code.function (passed_as κs params a) K)
   walk κs a are P K lent_out =
-      qed 𝓛 (raw P ∷ []) ∵ starts 𝓛 ! C Λ code.function (passed-as κs params a) K (typed κs 𝓛 params a are) (λ l.
+      qed 𝓛 (raw P ∷ []) ∵ starts 𝓛 ! C Λ code.function (passed_as κs params a) K (typed κs 𝓛 params a are) (λ l.
       let b : ℕ = l.1.1.1.1.1.0 in
       -- [P; _0; …]: local j stands at 1 + 2 · j
-      assigns ! (of_opd ! (at_local ! 9 refl)) (from ! (stop !)) (init ! 11 refl (table-typed 𝓛 4 a.1.1.1.0 _ are.1.1.1.0).0) $
-      lends-on ! 3 15 17 refl refl refl refl refl refl (tt, tt) refl refl refl (tt, (tt, (record { fits = are.0.0.1.0 }, tt))) $
+      assigns ! (of_opd ! (at_local ! 9 refl)) (from ! (stop !)) (init ! 11 refl (table_typed 𝓛 4 a.1.1.1.0 _ are.1.1.1.0).0) $
+      lends_on ! 3 15 17 refl refl refl refl refl refl (tt, tt) refl refl refl (tt, (tt, (record { fits = are.0.0.1.0 }, tt))) $
       assigns ! (addr ! (from ! (stop !))) (from ! (stop !)) (init ! 19 refl (tt, tt)) $
       assigns ! (agg ! (and_then ! (at_local ! 19 refl) (and_then ! (lit ! tt) (no_more !)))) (from ! (stop !))
-      (init ! 21 refl (tt, (tt, (record { fits = short-room.0 }, tt)))) $
+      (init ! 21 refl (tt, (tt, (record { fits = short_room.0 }, tt)))) $
       -- the table is lent
-      move ! (0 ∷ 11 ∷ []) $ use2 𝓛 (later (raw (C callee-def.name (passed κs a b) (Landed 𝓛 short-stretch-table b K)))) (lent_out b) $ await ! tt $
+      move ! (0 ∷ 11 ∷ []) $ use2 𝓛 (later (raw (C callee-def.name (passed κs a b) (Landed 𝓛 short_stretch_table b K)))) (lent_out b) $ await ! tt $
       -- [the call; _0; …; the end of _5; _6; …]: a local j behind _5 stands at 2 · j
-      calls ! fm (λ w. raw (Landed 𝓛 short-stretch-table b K w))
+      calls ! fm (λ w. raw (Landed 𝓛 short_stretch_table b K w))
       (and_then ! (at_local ! 16 refl) (and_then ! (at_local ! 5 refl) (and_then ! (at_local ! 7 refl) (and_then ! (at_local ! 20 refl) (no_more !))))) (λ w.
-      use1 𝓛 (later (some (λ (v : Val). given (Types 𝓛 short-stretch-table w v) (‵ (fat full_share (τ 4) b 0 v) ⊛ raw (K (pair w v)))))) (id⊢ 𝓤 _) $
+      use1 𝓛 (later (some (λ (v : Val). given (Types 𝓛 short_stretch_table w v) (‵ (fat full_share (τ 4) b 0 v) ⊛ raw (K (pair w v)))))) (id⊢ 𝓤 _) $
       await ! tt $ pick ! (λ v. learn ! (λ ts. split ! $ move ! (1 ∷ 2 ∷ 3 ∷ 4 ∷ 5 ∷ 6 ∷ 7 ∷ 8 ∷ 9 ∷ 10 ∷ 11 ∷ []) $
       -- [what is owed; _0; …]: local j stands at 1 + 2 · j
       land ! (from ! (stop !)) (init ! 13 refl ts.0.0) $

@@ -3,7 +3,7 @@
 use mathlib.Core.Path.{ap, ◌∙◌}
 use borrow.Author.Rules.{rules}
 use Rattle.refusal_rules.specs.Answers.{mapped}
-use Rattle.layout_rules.specs.Layouts.{openAs, givesThat, isFresh}
+use Rattle.layout_rules.specs.Layouts.{open_as, gives_that, is_fresh}
 use Rattle.layout_rules.specs.declared.Layout.TheVariants.{Area, Grid, Md}
 use Rattle.layout.proofs.is_fresh.Statement.{statement}
 use Rattle.layout.proofs.is_fresh.Tie as tie
@@ -36,25 +36,25 @@ is-md-requires : tie.Need-is-md-requires
 is-md-requires c κs = search rules
 
 returns : tie.Need-returns
-unfolding isFresh openAs
+unfolding is_fresh open_as
 returns c =
     let l = c.before.before.before.layout.given.0 in
     rw c.before.before.before.layout.given.1
-    (c.is-area.ensures ∙ ap (λ x. givesThat (Area l.0) (mapped Area x)) c.before.«open».ensures)
+    (c.is-area.ensures ∙ ap (λ x. gives_that (Area l.0) (mapped Area x)) c.before.«open».ensures)
 
 returns-2 : tie.Need-returns-2
-unfolding isFresh openAs
+unfolding is_fresh open_as
 returns-2 c =
     let l = c.before.before.before.layout2.given.0 in
     rw c.before.before.before.layout2.given.1
-    (c.is-grid.ensures ∙ ap (λ x. givesThat (Grid l.0) (mapped Grid x)) c.before.open2.ensures)
+    (c.is-grid.ensures ∙ ap (λ x. gives_that (Grid l.0) (mapped Grid x)) c.before.open2.ensures)
 
 returns-3 : tie.Need-returns-3
-unfolding isFresh openAs
+unfolding is_fresh open_as
 returns-3 c =
     let l = c.before.before.before.layout3.given.0 in
     rw c.before.before.before.layout3.given.1
-    (c.is-md.ensures ∙ ap (λ x. givesThat (Md l.0) (mapped Md x)) c.before.open3.ensures)
+    (c.is-md.ensures ∙ ap (λ x. gives_that (Md l.0) (mapped Md x)) c.before.open3.ensures)
 
 pub is-fresh-spec : {M : Type 1} → statement M
 is-fresh-spec =

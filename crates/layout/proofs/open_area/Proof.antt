@@ -3,7 +3,7 @@
 use mathlib.Core.Path.{sym, ap, ◌∙◌}
 use borrow.Author.Rules.{rules}
 use Rattle.refusal_rules.specs.Answers.{mapped}
-use Rattle.area_rules.specs.Opening.{areaSays}
+use Rattle.area_rules.specs.Opening.{area_says}
 use Rattle.layout_rules.specs.declared.Layout.TheVariants.{Area}
 use Rattle.layout.proofs.open_area.Statement.{statement}
 use Rattle.layout.proofs.open_area.Tie as tie
@@ -18,10 +18,10 @@ enum-known-refusal : tie.Need-enum-known-refusal
 enum-known-refusal c = search rules
 
 returns : tie.Need-returns
-returns c = ap (mapped Area) (ap areaSays (sym c.before.layout.given.1) ∙ c.before.before.before.«open».ensures)
+returns c = ap (mapped Area) (ap area_says (sym c.before.layout.given.1) ∙ c.before.before.before.«open».ensures)
 
 returns-2 : tie.Need-returns-2
-returns-2 c = ap (mapped Area) (ap areaSays (sym c.before.refusal.given.1) ∙ c.before.before.before.«open».ensures)
+returns-2 c = ap (mapped Area) (ap area_says (sym c.before.refusal.given.1) ∙ c.before.before.before.«open».ensures)
 
 pub open-area-spec : {M : Type 1} → statement M
 open-area-spec = tie.close (tie.spec open-requires enum-known-layout enum-known-refusal returns returns-2)

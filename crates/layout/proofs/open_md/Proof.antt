@@ -3,7 +3,7 @@
 use mathlib.Core.Path.{sym, ap, ◌∙◌}
 use borrow.Author.Rules.{rules}
 use Rattle.refusal_rules.specs.Answers.{mapped}
-use Rattle.md_rules.specs.Opening.{mdSays}
+use Rattle.md_rules.specs.Opening.{md_says}
 use Rattle.layout_rules.specs.declared.Layout.TheVariants.{Md}
 use Rattle.layout.proofs.open_md.Statement.{statement}
 use Rattle.layout.proofs.open_md.Tie as tie
@@ -18,10 +18,10 @@ enum-known-refusal : tie.Need-enum-known-refusal
 enum-known-refusal c = search rules
 
 returns : tie.Need-returns
-returns c = ap (mapped Md) (ap mdSays (sym c.before.layout.given.1) ∙ c.before.before.before.«open».ensures)
+returns c = ap (mapped Md) (ap md_says (sym c.before.layout.given.1) ∙ c.before.before.before.«open».ensures)
 
 returns-2 : tie.Need-returns-2
-returns-2 c = ap (mapped Md) (ap mdSays (sym c.before.refusal.given.1) ∙ c.before.before.before.«open».ensures)
+returns-2 c = ap (mapped Md) (ap md_says (sym c.before.refusal.given.1) ∙ c.before.before.before.«open».ensures)
 
 pub open-md-spec : {M : Type 1} → statement M
 open-md-spec = tie.close (tie.spec open-requires enum-known-layout enum-known-refusal returns returns-2)

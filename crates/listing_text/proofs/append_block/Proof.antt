@@ -1,7 +1,7 @@
 -- `listing_text::append_block` meets its contract: the name, the two numbers and the end of the line, one after another.
 -- Assumes nothing.
 use Rattle.listing_rules.specs.Page.{block_line}
-use Rattle.listing_rules.proofs.Appending.{append-four}
+use Rattle.listing_rules.proofs.Appending.{append_four}
 use borrow.Author.Rules.{rules}
 use Rattle.listing_text.proofs.append_block.Statement.{statement}
 use Rattle.listing_text.proofs.append_block.Tie as tie
@@ -28,7 +28,7 @@ returns : tie.Need-returns
 unfolding block_line
 returns c =
     rw (c.append-bytes.ensures, c.before.before.append-two.ensures, c.before.before.before.before.before.append-name.ensures)
-    (append-four _ _ _ _ _)
+    (append_four _ _ _ _ _)
 
 pub append-block-spec : {M : Type 1} → statement M
 append-block-spec =

@@ -6,9 +6,9 @@ use native.Mathlib.Omega.{arith}
 use lib.ListN.{length, take, drop}
 use lib.Seq.{get_or-take, length-take-le}
 use Rattle.listing_rules.specs.Page.{block_lines}
-use Rattle.listing_rules.specs.Steps.{appendBytes}
+use Rattle.listing_rules.specs.Steps.{append_bytes}
 use Rattle.listing_rules.specs.declared.BlockList.{BlockList}
-use Rattle.listing_rules.proofs.Appending.{append-block, append-no-block}
+use Rattle.listing_rules.proofs.Appending.{append_block, append_no_block}
 use Rattle.listing_text.proofs.append_blocks.Statement.{statement}
 use Rattle.listing_text.proofs.append_blocks.Tie as tie
 
@@ -18,7 +18,7 @@ blocks-length b h = length-take-le b.count b.entries (omega (arith, h))
 
 abbrev invariant-loop : tie.invariant-loop
 invariant-loop count entries t₀ i₀ t i =
-    (i ≤ count) × (appendBytes t (block_lines (drop i (take count entries))) ≡ appendBytes t₀ (block_lines (take count entries)))
+    (i ≤ count) × (append_bytes t (block_lines (drop i (take count entries))) ≡ append_bytes t₀ (block_lines (take count entries)))
 
 abbrev decreases-loop : tie.decreases-loop
 decreases-loop count entries t₀ i₀ t i = count - i
@@ -48,8 +48,8 @@ loop-again c =
     let h = c.before.before.loop-test.true in
     let b = s.args.blocks in (
       omega arith,
-      rw (c.append-block.ensures, ← get_or-take b.count b.entries lp.i _ h)
-          (append-block lp.t (take b.count b.entries) lp.i _ (omega (arith, h, blocks-length b s.requires)) ∙ lp.invariant.1),
+      rw (c.append_block.ensures, ← get_or-take b.count b.entries lp.i _ h)
+          (append_block lp.t (take b.count b.entries) lp.i _ (omega (arith, h, blocks-length b s.requires)) ∙ lp.invariant.1),
     )
 
 returns : tie.Need-returns invariant-loop decreases-loop
@@ -57,7 +57,7 @@ returns c =
     let lp = c.before.loop in
     let s = c.before.before.before in
     let b = s.args.blocks in
-    append-no-block lp.t (take b.count b.entries) lp.i (omega (arith, blocks-length b s.requires)) ∙ lp.invariant.1
+    append_no_block lp.t (take b.count b.entries) lp.i (omega (arith, blocks-length b s.requires)) ∙ lp.invariant.1
 
 pub append-blocks-spec : {M : Type 1} → statement M
 append-blocks-spec =

@@ -1,7 +1,7 @@
 -- `listing_text::append_layout` meets its contract: the line of the order, the five numbers and the end of the line, one after another.
 -- Assumes nothing.
-use Rattle.listing_rules.specs.Page.{layoutLines}
-use Rattle.listing_rules.proofs.Appending.{append-seven}
+use Rattle.listing_rules.specs.Page.{layout_lines}
+use Rattle.listing_rules.proofs.Appending.{append_seven}
 use borrow.Author.Rules.{rules}
 use Rattle.listing_text.proofs.append_layout.Statement.{statement}
 use Rattle.listing_text.proofs.append_layout.Tie as tie
@@ -55,14 +55,14 @@ append-bytes-requires : tie.Need-append-bytes-requires
 append-bytes-requires c κs = search rules
 
 returns : tie.Need-returns
-unfolding layoutLines
+unfolding layout_lines
 returns c =
     let number = c.before.before in
     let second = number.before.before in
     let first = second.before.before.before in
     let order = first.before.before.before in
     rw (c.append-bytes.ensures, number.append-number.ensures, second.append-two2.ensures, first.append-two.ensures, order.append-order.ensures)
-    (append-seven _ _ _ _ _ _ _ _)
+    (append_seven _ _ _ _ _ _ _ _)
 
 pub append-layout-spec : {M : Type 1} → statement M
 append-layout-spec =

@@ -6,7 +6,7 @@ use Prim.Native.Nat.{◌-◌, ◌≤◌}
 use native.Mathlib.Omega.{arith}
 use lib.ListN.{length, get_or, set, drop, length-set}
 use Rattle.lists.specs.Lists.{list_of}
-use Rattle.lists.proofs.Filled.{filled_more, filled-all}
+use Rattle.lists.proofs.Filled.{filled_more, filled_all}
 use Rattle.listing_text.proofs.fill_text.Statement.{statement}
 use Rattle.listing_text.proofs.fill_text.Tie as tie
 
@@ -51,7 +51,7 @@ returns : tie.Need-returns invariant-loop decreases-loop
 returns c =
     let lp = c.before.loop in
     let s = c.before.before.before in
-    lp.invariant.1.1 ∙ filled-all (λ k. get_or s.args.text.bytes k 0) lp.i s.args.out.now (omega arith)
+    lp.invariant.1.1 ∙ filled_all (λ k. get_or s.args.text.bytes k 0) lp.i s.args.out.now (omega arith)
 
 pub fill-text-spec : {M : Type 1} → statement M
 fill-text-spec =

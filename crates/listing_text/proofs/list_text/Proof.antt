@@ -9,24 +9,24 @@ use lib.Seq.{length-take-le}
 use Rattle.lists.specs.Lists.{list_of}
 use Rattle.refusal_rules.specs.Answers.{gives}
 use Rattle.copy_rules.specs.Runs.{copied}
-use Rattle.copy_rules.proofs.Copies.{listed-over, listed-short}
-use Rattle.listing_rules.specs.Page.{listingText}
-use Rattle.listing_rules.specs.Steps.{emptyText, appendBytes}
+use Rattle.copy_rules.proofs.Copies.{listed-over, listed_short}
+use Rattle.listing_rules.specs.Page.{listing_text}
+use Rattle.listing_rules.specs.Steps.{empty_text, append_bytes}
 use Rattle.listing_rules.specs.declared.Text.{Text}
-use Rattle.listing_rules.proofs.Appending.{TextIs, text-is, text-listOf}
-use Rattle.listing_rules.proofs.Page.{listing-most}
+use Rattle.listing_rules.proofs.Appending.{TextIs, text_is, text_list_of}
+use Rattle.listing_rules.proofs.Page.{listing_most}
 use borrow.Author.Rules.{rules}
 use Rattle.listing_text.proofs.list_text.Statement.{statement}
 use Rattle.listing_text.proofs.list_text.Tie as tie
 
-module _ (f : List ℕ) {t : Text} (e : t ≡ appendBytes emptyText (listingText f)) where
+module _ (f : List ℕ) {t : Text} (e : t ≡ append_bytes empty_text (listing_text f)) where
   -- the bytes of the text are the listing
-  is-listing : TextIs t (listingText f)
-  is-listing = rw e (text-is (listingText f) (omega (arith, listing-most f)))
+  is-listing : TextIs t (listing_text f)
+  is-listing = rw e (text_is (listing_text f) (omega (arith, listing_most f)))
 
   -- each by its index
-  listed-bytes : list_of (λ i. get_or t.bytes i 0) t.count ≡ listingText f
-  listed-bytes = text-listOf is-listing (omega (arith, listing-most f))
+  listed-bytes : list_of (λ i. get_or t.bytes i 0) t.count ≡ listing_text f
+  listed-bytes = text_list_of is-listing (omega (arith, listing_most f))
 
 text-of-requires : tie.Need-text-of-requires
 text-of-requires c κs = search rules
@@ -35,7 +35,7 @@ returns : tie.Need-returns
 returns c =
     let s = c.before.before.before.before in
     let t = c.before.text_of in
-    listed-short (λ i. get_or t.result.bytes i 0) t.result.count s.args.out.now c.if1.true
+    listed_short (λ i. get_or t.result.bytes i 0) t.result.count s.args.out.now c.if1.true
     ∙ ap (λ l. copied (gives l) s.args.out.now) (listed-bytes s.args.file.now t.ensures)
 
 slice-relend-prefix-fill-text : tie.Need-slice-relend-prefix-fill-text
@@ -49,7 +49,7 @@ fill-text-requires c κs =
     let s = c.before.before.before.before.before in
     let t = c.before.before.text_of in
     let f = s.args.file.now in
-    omega (arith, length-take t.result.count s.args.out.now, (is-listing f t.ensures).count, listing-most f)
+    omega (arith, length-take t.result.count s.args.out.now, (is-listing f t.ensures).count, listing_most f)
 
 same_length : tie.Need-same-length
 same_length c = search rules

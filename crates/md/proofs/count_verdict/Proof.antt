@@ -1,8 +1,8 @@
 -- `md::count_verdict` meets its contract: the chain of rules is the table.
 -- Assumes nothing.
 use Rattle.refusal_rules.specs.Rules.{chained}
-use Rattle.refusal_rules.proofs.Tables.{by-table}
-use Rattle.md_rules.specs.Rules.{mdCountRules}
+use Rattle.refusal_rules.proofs.Tables.{by_table}
+use Rattle.md_rules.specs.Rules.{md_count_rules}
 use borrow.Author.Rules.{rules}
 use Rattle.md.proofs.count_verdict.Statement.{statement}
 use Rattle.md.proofs.count_verdict.Tie as tie
@@ -26,9 +26,9 @@ count-requires-6 : tie.Need-count-requires-6
 count-requires-6 c κs = search rules
 
 returns : tie.Need-returns
-unfolding mdCountRules chained
+unfolding md_count_rules chained
 returns c =
-    by-table
+    by_table
     _
     (rw (
       c.count6.ensures,

@@ -4,8 +4,8 @@ use Prim.Native.Nat.{◌*◌, ◌≤◌}
 use native.Mathlib.Omega.{arith}
 use Rattle.refusal_rules.specs.Rules.{chained}
 use Rattle.refusal_rules.proofs.Tables.{by_chain}
-use Rattle.md_rules.specs.Rules.{mdEndRules}
-use Rattle.md_rules.proofs.Verdicts.{pass-counted, data-records, data-words}
+use Rattle.md_rules.specs.Rules.{md_end_rules}
+use Rattle.md_rules.proofs.Verdicts.{pass_counted, data_records, data_words}
 use borrow.Author.Rules.{rules}
 use Rattle.md.proofs.end_verdict.Statement.{statement}
 use Rattle.md.proofs.end_verdict.Tie as tie
@@ -15,14 +15,14 @@ records-small : (c : tie.After-read-word5)
     → let s = c.before.before.before in s.before.read_word.result * s.read-word2.result ≤ 104856000000
 records-small c =
     let s = c.before.before.before in
-    rw (s.before.read_word.ensures, s.read-word2.ensures) (data-records (pass-counted _ s.before.before.before.requires.1))
+    rw (s.before.read_word.ensures, s.read-word2.ensures) (data_records (pass_counted _ s.before.before.before.requires.1))
 
 data-small : (c : tie.After-read-word5)
     → let s = c.before.before in s.before.before.read_word.result * s.before.read-word2.result * s.read-word3.result ≤ 41942400000000
 data-small c =
     let s = c.before.before in
     rw (s.before.before.read_word.ensures, s.before.read-word2.ensures, s.read-word3.ensures)
-    (data-words (pass-counted _ s.before.before.before.before.requires.1))
+    (data_words (pass_counted _ s.before.before.before.before.requires.1))
 
 read-word-requires : tie.Need-read-word-requires
 read-word-requires c κs = search rules
@@ -73,7 +73,7 @@ check-requires-2 : tie.Need-check-requires-2
 check-requires-2 c κs = search rules
 
 returns : tie.Need-returns
-unfolding mdEndRules chained
+unfolding md_end_rules chained
 returns c =
     by_chain
     _
@@ -81,7 +81,7 @@ returns c =
     (rw (
       c.check2.ensures,
       c.before.check.ensures,
-      c.before.before.at-least.ensures,
+      c.before.before.at_least_lem.ensures,
       c.before.before.before.read-word5.ensures,
       c.before.before.before.before.read-word4.ensures,
       c.before.before.before.before.before.read-word3.ensures,

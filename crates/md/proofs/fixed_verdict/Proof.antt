@@ -2,7 +2,7 @@
 -- Assumes nothing.
 use Rattle.refusal_rules.specs.Rules.{chained}
 use Rattle.refusal_rules.proofs.Tables.{by_chain}
-use Rattle.md_rules.specs.Rules.{mdFixedRules}
+use Rattle.md_rules.specs.Rules.{md_fixed_rules}
 use borrow.Author.Rules.{rules}
 use Rattle.md.proofs.fixed_verdict.Statement.{statement}
 use Rattle.md.proofs.fixed_verdict.Tie as tie
@@ -20,7 +20,7 @@ equal-requires-4 : tie.Need-equal-requires-4
 equal-requires-4 c κs = search rules
 
 returns : tie.Need-returns
-unfolding mdFixedRules chained
+unfolding md_fixed_rules chained
 returns c =
     by_chain
     _

@@ -1,6 +1,6 @@
 -- `md::layout_of_words` meets its contract: every field is the word that the definition has.
 -- Assumes nothing.
-use Rattle.md_rules.specs.Opening.{mdLayoutOf}
+use Rattle.md_rules.specs.Opening.{md_layout_of}
 use borrow.Author.Rules.{rules}
 use Rattle.md.proofs.layout_of_words.Statement.{statement}
 use Rattle.md.proofs.layout_of_words.Tie as tie
@@ -30,7 +30,7 @@ read-word-requires-8 : tie.Need-read-word-requires-8
 read-word-requires-8 c κs = search rules
 
 returns : tie.Need-returns
-unfolding mdLayoutOf
+unfolding md_layout_of
 returns c =
     rw (
       c.read-word8.ensures,

@@ -2,16 +2,16 @@
 -- Assumes nothing.
 use mathlib.Core.Path.{sym, ap, ◌∙◌}
 use borrow.Author.Tests.{lt-leb}
-use Rattle.refusal_rules.specs.Rules.{judge, first, firstFault}
+use Rattle.refusal_rules.specs.Rules.{judge, first, first_fault}
 use Rattle.refusal_rules.specs.Answers.{gives}
-use Rattle.md_rules.specs.Rules.{mdRules}
-use Rattle.md_rules.specs.Opening.{openMdWords, openMd}
+use Rattle.md_rules.specs.Rules.{md_rules}
+use Rattle.md_rules.specs.Opening.{open_md_words, open_md}
 use borrow.Author.Rules.{rules}
 use Rattle.md.proofs.open.Statement.{statement}
 use Rattle.md.proofs.open.Tie as tie
 
 returns : tie.Need-returns
-unfolding openMd openMdWords mdRules firstFault first judge
+unfolding open_md open_md_words md_rules first_fault first judge
 returns c = rw (lt-leb _ _ c.if1.true)
 
 md-verdict-requires : tie.Need-md-verdict-requires
@@ -27,11 +27,11 @@ layout-of-words-requires : tie.Need-layout-of-words-requires
 layout-of-words-requires c κs = search rules
 
 returns-2 : tie.Need-returns-2
-unfolding openMd openMdWords
+unfolding open_md open_md_words
 returns-2 c = rw (sym c.before.before.before.md-verdict.ensures ∙ c.before.refusal.given.1)
 
 returns-3 : tie.Need-returns-3
-unfolding openMd openMdWords
+unfolding open_md open_md_words
 returns-3 c = rw (sym c.before.before.before.md-verdict.ensures ∙ c.before.enum_told.given.1) (ap gives c.layout-of-words.ensures)
 
 pub open_spec : {M : Type 1} → statement M

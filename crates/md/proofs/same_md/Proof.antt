@@ -1,7 +1,7 @@
 -- `md::same_md` meets its contract: field by field, from the last to the first, it is the comparison of the two lists of numbers.
 -- Assumes nothing.
 use Rattle.refusal_rules.specs.Tests.{same_numbers}
-use Rattle.md_rules.specs.Opening.{sameMd}
+use Rattle.md_rules.specs.Opening.{same_md}
 use borrow.Author.Rules.{rules}
 use Rattle.md.proofs.same_md.Statement.{statement}
 use Rattle.md.proofs.same_md.Tie as tie
@@ -43,7 +43,7 @@ equal-and-requires-9 : tie.Need-equal-and-requires-9
 equal-and-requires-9 c κs = search rules
 
 returns : tie.Need-returns
-unfolding sameMd same_numbers
+unfolding same_md same_numbers
 returns c =
     rw (
       c.equal-and9.ensures,

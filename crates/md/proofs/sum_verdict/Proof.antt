@@ -3,9 +3,9 @@
 use Prim.Native.Nat.{◌*◌, ◌≤◌}
 use native.Mathlib.Omega.{arith}
 use Rattle.refusal_rules.specs.Rules.{chained}
-use Rattle.refusal_rules.proofs.Tables.{by-table}
-use Rattle.md_rules.specs.Rules.{mdSumRules}
-use Rattle.md_rules.proofs.Verdicts.{pass-counted, row_words, column-words}
+use Rattle.refusal_rules.proofs.Tables.{by_table}
+use Rattle.md_rules.specs.Rules.{md_sum_rules}
+use Rattle.md_rules.proofs.Verdicts.{pass_counted, row-words, column-words}
 use borrow.Author.Rules.{rules}
 use Rattle.md.proofs.sum_verdict.Statement.{statement}
 use Rattle.md.proofs.sum_verdict.Tie as tie
@@ -16,14 +16,14 @@ rows-small : (c : tie.After-read-word6)
 rows-small c =
     let s = c.before.before.before in
     rw (s.before.before.read_word.ensures, s.read-word3.ensures)
-    (row_words (pass-counted _ s.before.before.before.before.requires.1))
+    (row-words (pass_counted _ s.before.before.before.before.requires.1))
 
 columns-small : (c : tie.After-read-word6)
     → let s = c.before.before in s.before.before.read-word2.result * s.read-word4.result ≤ 640000000
 columns-small c =
     let s = c.before.before in
     rw (s.before.before.read-word2.ensures, s.read-word4.ensures)
-    (column-words (pass-counted _ s.before.before.before.before.before.requires.1))
+    (column-words (pass_counted _ s.before.before.before.before.before.requires.1))
 
 read-word-requires : tie.Need-read-word-requires
 read-word-requires c κs = search rules
@@ -107,9 +107,9 @@ equal-requires-6 : tie.Need-equal-requires-6
 equal-requires-6 c κs = omega (arith, c.before.before.before.before.before.before.before.before.before.before.before.before.requires)
 
 returns : tie.Need-returns
-unfolding mdSumRules chained
+unfolding md_sum_rules chained
 returns c =
-    by-table
+    by_table
     _
     (rw (
       c.equal6.ensures,

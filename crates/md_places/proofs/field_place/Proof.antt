@@ -3,12 +3,12 @@
 use mathlib.Core.Path.{◌≡◌, sym, ap, ◌∙◌}
 use Prim.Native.Nat.{ℕ}
 use native.Mathlib.Omega.{arith}
-use Rattle.refusal_rules.specs.Answers.{gives, wordPlace}
-use Rattle.refusal_rules.proofs.Tables.{pass-hold}
-use Rattle.md_rules.specs.Fields.{fieldWord}
-use Rattle.md_rules.specs.Places.{fieldPlace}
-use Rattle.md_rules.proofs.Sizes.{field-most}
-use Rattle.md_rules.proofs.Tables.{fields-hold}
+use Rattle.refusal_rules.specs.Answers.{gives, word_place}
+use Rattle.refusal_rules.proofs.Tables.{pass_hold}
+use Rattle.md_rules.specs.Fields.{field_word}
+use Rattle.md_rules.specs.Places.{field_place}
+use Rattle.md_rules.proofs.Sizes.{field_most}
+use Rattle.md_rules.proofs.Tables.{fields_hold}
 use borrow.Author.Rules.{rules}
 use Rattle.md_places.proofs.field_place.Statement.{statement}
 use Rattle.md_places.proofs.field_place.Tie as tie
@@ -23,24 +23,24 @@ enum_told : tie.Need-enum-told
 enum_told c = search rules
 
 field-word-requires : tie.Need-field-word-requires
-field-word-requires c κs = (fields-hold _ _ _ _).0 (pass-hold _ (sym c.before.before.field-verdict.ensures ∙ c.enum_told.given.1))
+field-word-requires c κs = (fields_hold _ _ _ _).0 (pass_hold _ (sym c.before.before.field-verdict.ensures ∙ c.enum_told.given.1))
 
 mul-t9 : tie.Need-overflow-mul-t9
 mul-t9 c =
     let s = c.before.before.before.before in
-    let h = (fields-hold _ _ _ _).0 (pass-hold _ (sym c.before.before.before.field-verdict.ensures ∙ c.before.enum_told.given.1)) in
-    let word : c.field-word.result ≡ fieldWord s.args.layout s.args.row s.args.column s.args.position = c.field-word.ensures in
-    omega (arith, word, field-most h.0 h.1 (omega (arith, s.well-formed.0)) (omega (arith, s.well-formed.0)) (omega (arith, s.ranges.position)))
+    let h = (fields_hold _ _ _ _).0 (pass_hold _ (sym c.before.before.before.field-verdict.ensures ∙ c.before.enum_told.given.1)) in
+    let word : c.field-word.result ≡ field_word s.args.layout s.args.row s.args.column s.args.position = c.field-word.ensures in
+    omega (arith, word, field_most h.0 h.1 (omega (arith, s.well-formed.0)) (omega (arith, s.well-formed.0)) (omega (arith, s.ranges.position)))
 
 returns : tie.Need-returns
-unfolding fieldPlace
+unfolding field_place
 returns c = rw (sym c.before.before.before.field-verdict.ensures ∙ c.before.refusal.given.1)
 
 returns-2 : tie.Need-returns-2
-unfolding fieldPlace
+unfolding field_place
 returns-2 c =
     rw (sym c.before.before.before.field-verdict.ensures ∙ c.before.enum_told.given.1)
-    (ap (λ (w : ℕ). gives (wordPlace w)) c.field-word.ensures)
+    (ap (λ (w : ℕ). gives (word_place w)) c.field-word.ensures)
 
 pub field-place-spec : {M : Type 1} → statement M
 field-place-spec =

@@ -4,9 +4,9 @@ use mathlib.Core.Path.{sym, ◌∙◌}
 use mathlib.Core.List.{[], ◌∷◌}
 use Rattle.refusal_rules.specs.Rules.{rule, chained}
 use Rattle.refusal_rules.specs.Tests.{within}
-use Rattle.refusal_rules.proofs.Tables.{by_chain, firstFault-append}
+use Rattle.refusal_rules.proofs.Tables.{by_chain, first_fault-append}
 use Rattle.md_rules.specs.Fields.{fields_of}
-use Rattle.md_rules.specs.Places.{partRules, fieldRules}
+use Rattle.md_rules.specs.Places.{part_rules, field_rules}
 use borrow.Author.Rules.{rules}
 use Rattle.md_places.proofs.field_verdict.Statement.{statement}
 use Rattle.md_places.proofs.field_verdict.Tie as tie
@@ -24,12 +24,12 @@ check-requires : tie.Need-check-requires
 check-requires c κs = search rules
 
 returns : tie.Need-returns
-unfolding fieldRules chained
+unfolding field_rules chained
 returns c =
     let a = c.before.before.before.before.args in
     by_chain _ (rule (within 1 (fields_of a.layout a.row a.column) a.position) 7 0 ∷ [])
     (rw (c.check.ensures, c.before.within.ensures, c.before.before.fields-of.ensures, c.before.before.before.part-verdict.ensures))
-    ∙ sym (firstFault-append (partRules a.layout a.row a.column) _)
+    ∙ sym (first_fault-append (part_rules a.layout a.row a.column) _)
 
 pub field-verdict-spec : {M : Type 1} → statement M
 field-verdict-spec =

@@ -1,6 +1,6 @@
 -- `md_places::md_bounded` meets its contract: its tests are those of the definition.
 -- Assumes nothing.
-use Rattle.md_rules.specs.Bounds.{mdBounded}
+use Rattle.md_rules.specs.Bounds.{md_bounded}
 use borrow.Author.Rules.{rules}
 use Rattle.md_places.proofs.md_bounded.Statement.{statement}
 use Rattle.md_places.proofs.md_bounded.Tie as tie
@@ -18,7 +18,7 @@ and-requires-4 : tie.Need-and-requires-4
 and-requires-4 c κs = search rules
 
 returns : tie.Need-returns
-unfolding mdBounded
+unfolding md_bounded
 returns c = cc
 
 pub md-bounded-spec : {M : Type 1} → statement M

@@ -1,8 +1,8 @@
 -- `md_places::part_verdict` meets its contract: the chain of checks is the table of rules.
 -- Assumes nothing.
 use Rattle.refusal_rules.specs.Rules.{chained}
-use Rattle.refusal_rules.proofs.Tables.{by-table}
-use Rattle.md_rules.specs.Places.{partRules}
+use Rattle.refusal_rules.proofs.Tables.{by_table}
+use Rattle.md_rules.specs.Places.{part_rules}
 use borrow.Author.Rules.{rules}
 use Rattle.md_places.proofs.part_verdict.Statement.{statement}
 use Rattle.md_places.proofs.part_verdict.Tie as tie
@@ -20,14 +20,14 @@ check-requires-3 : tie.Need-check-requires-3
 check-requires-3 c κs = search rules
 
 returns : tie.Need-returns
-unfolding partRules chained
+unfolding part_rules chained
 returns c =
-    by-table _
+    by_table _
     (rw (
       c.check3.ensures,
       c.before.before.check2.ensures,
       c.before.before.before.before.check.ensures,
-      c.before.before.before.before.before.md-bounded.ensures,
+      c.before.before.before.before.before.md_bounded_lem.ensures,
     ))
 
 pub part-verdict-spec : {M : Type 1} → statement M

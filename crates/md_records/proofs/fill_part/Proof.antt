@@ -2,8 +2,8 @@
 -- Assumes nothing.
 use mathlib.Core.Path.{◌≡◌}
 use native.Mathlib.Omega.{arith}
-use Rattle.md_rules.specs.Places.{partWord}
-use Rattle.md_part_rules.proofs.Fills.{part-words, part-inside, part_small, part-started, part-granted}
+use Rattle.md_rules.specs.Places.{part_word}
+use Rattle.md_part_rules.proofs.Fills.{part-words, part-inside, part-small, part_started, part_granted}
 use borrow.Author.Rules.{rules}
 use Rattle.md_records.proofs.fill_part.Statement.{statement}
 use Rattle.md_records.proofs.fill_part.Tie as tie
@@ -16,17 +16,17 @@ enum-known-word c = search rules
 
 -- where the part begins
 start : (c : tie.After-known-told) → let a = c.before.before.before.before.before.args in
-    c.before.word.given.0.0 ≡ partWord a.l a.row a.column
+    c.before.word.given.0.0 ≡ part_word a.l a.row a.column
 start c =
     let s = c.before.before.before.before.before in
-    part-started _ _ s.requires.0 _ _ s.requires.1.0 s.requires.1.1.0 c.before.before.before.part-start.ensures c.before.word.given.1
+    part_started _ _ s.requires.0 _ _ s.requires.1.0 s.requires.1.1.0 c.before.before.before.part-start.ensures c.before.word.given.1
 
 mul-fill-words : tie.Need-overflow-mul-fill-words
 mul-fill-words c =
     let s = c.before.before.before.before.before in
     record {
       fits =
-          part_small _ _ s.requires.0 _ _ s.requires.1.0 s.requires.1.1.0 _ (start c) (omega (arith, s.well-formed.1.0)) (omega (arith, s.well-formed.1.0));
+          part-small _ _ s.requires.0 _ _ s.requires.1.0 s.requires.1.1.0 _ (start c) (omega (arith, s.well-formed.1.0)) (omega (arith, s.well-formed.1.0));
     }
 
 fill-words-requires : tie.Need-fill-words-requires
@@ -48,7 +48,7 @@ returns c =
 returns-2 : tie.Need-returns-2
 returns-2 c =
     let s = c.before.before.before.before in
-    part-granted _ _ s.requires.0 _ _ s.requires.1.0 s.requires.1.1.0 c.before.before.part-start.ensures c.enum_told.given.1
+    part_granted _ _ s.requires.0 _ _ s.requires.1.0 s.requires.1.1.0 c.before.before.part-start.ensures c.enum_told.given.1
 
 pub fill-part-spec : {M : Type 1} → statement M
 fill-part-spec =

@@ -5,7 +5,7 @@ use Prim.Native.Nat.{◌+◌, ◌≤◌}
 use native.Mathlib.Omega.{arith}
 use lib.ListN.{length}
 use lib.Seq.{length-take-le}
-use Rattle.md_part_rules.proofs.Fills.{row-fields, column-room, data-room, record-over}
+use Rattle.md_part_rules.proofs.Fills.{row_fields, column-room, data_room, record_over}
 use borrow.Author.Rules.{rules}
 use Rattle.md_records.proofs.fill_record.Statement.{statement}
 use Rattle.md_records.proofs.fill_record.Tie as tie
@@ -41,7 +41,7 @@ fill-part-requires : tie.Need-fill-part-requires
 fill-part-requires c κs =
     let s = c.before.before.before.before.before in
     let is = s.requires.1.0 in
-    (s.requires.0, (is.row-to, (omega arith, length-take-le _ _ (omega (arith, room s)) ∙ sym (row-fields _ _ is.row_from))))
+    (s.requires.0, (is.row_to, (omega arith, length-take-le _ _ (omega (arith, room s)) ∙ sym (row_fields _ _ is.row_from))))
 
 mul-fill-part : tie.Need-overflow-mul-fill-part
 mul-fill-part c = search rules
@@ -60,7 +60,7 @@ fill-part-requires-2 c κs =
     let s = c.before.before.before.before.before.before.before.before in
     let is = s.requires.1.0 in
     let places = column-room s.args.file.now s.args.l is s.args.out.now (room s) c.before.before.fill-part.ensures in
-    (s.requires.0, (omega arith, (is.column-to, places)))
+    (s.requires.0, (omega arith, (is.column_to, places)))
 
 mul-fill-part-2 : tie.Need-overflow-mul-fill-part-2
 mul-fill-part-2 c = search rules
@@ -79,8 +79,8 @@ fill-part-requires-3 c κs =
     let s = c.before.before.before.before.before.before.before.before.before.before.before in
     let is = s.requires.1.0 in
     let row = c.before.before.before.before.before.fill-part.ensures in
-    let places = data-room s.args.file.now s.args.l is s.args.out.now (room s) row c.before.before.fill-part2.ensures in
-    (s.requires.0, (is.row-to, (is.column-to, places)))
+    let places = data_room s.args.file.now s.args.l is s.args.out.now (room s) row c.before.before.fill-part2.ensures in
+    (s.requires.0, (is.row_to, (is.column_to, places)))
 
 same_length : tie.Need-same-length
 same_length c = search rules
@@ -90,7 +90,7 @@ returns c =
     let s = c.before.before.before.before.before.before.before.before.before.before.before.before.before in
     let row = c.before.before.before.before.before.before.before.fill-part.ensures in
     let column = c.before.before.before.before.fill-part2.ensures in
-    record-over s.args.file.now s.args.l s.requires.1.0 s.args.out.now (room s) row column c.before.fill-part3.ensures
+    record_over s.args.file.now s.args.l s.requires.1.0 s.args.out.now (room s) row column c.before.fill-part3.ensures
 
 pub fill-record-spec : {M : Type 1} → statement M
 fill-record-spec =

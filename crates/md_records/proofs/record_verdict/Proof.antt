@@ -1,8 +1,8 @@
 -- `md_records::record_verdict` meets its contract: the chain of checks is the table of rules.
 -- Assumes nothing.
 use Rattle.refusal_rules.specs.Rules.{chained}
-use Rattle.refusal_rules.proofs.Tables.{by-table}
-use Rattle.md_part_rules.specs.Records.{recordRules}
+use Rattle.refusal_rules.proofs.Tables.{by_table}
+use Rattle.md_part_rules.specs.Records.{record_rules}
 use borrow.Author.Rules.{rules}
 use Rattle.md_records.proofs.record_verdict.Statement.{statement}
 use Rattle.md_records.proofs.record_verdict.Tie as tie
@@ -20,9 +20,9 @@ check-requires-2 : tie.Need-check-requires-2
 check-requires-2 c κs = search rules
 
 returns : tie.Need-returns
-unfolding recordRules chained
+unfolding record_rules chained
 returns c =
-    by-table _
+    by_table _
     (rw (
       c.check2.ensures,
       c.before.within2.ensures,

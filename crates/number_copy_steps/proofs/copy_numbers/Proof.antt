@@ -6,7 +6,7 @@ use native.Mathlib.Omega.{arith}
 use lib.ListN.{length-take}
 use lib.Seq.{length-take-le}
 use Rattle.endian_rules.specs.Numbers.{number_at}
-use Rattle.copy_rules.proofs.Copies.{listed-over, listed-short}
+use Rattle.copy_rules.proofs.Copies.{listed-over, listed_short}
 use Rattle.copy_rules.proofs.Runs.{element}
 use borrow.Author.Rules.{rules}
 use Rattle.number_copy_steps.proofs.copy_numbers.Statement.{statement}
@@ -19,7 +19,7 @@ theNumbers s = element (number_at s.args.order s.args.width s.args.file.now) s.a
 returns : tie.Need-returns
 returns c =
     let s = c.before.before.before in
-    listed-short (theNumbers s) s.args.run.count s.args.out.now c.if1.true
+    listed_short (theNumbers s) s.args.run.count s.args.out.now c.if1.true
 
 slice-relend-prefix-fill-numbers : tie.Need-slice-relend-prefix-fill-numbers
 slice-relend-prefix-fill-numbers c = search rules

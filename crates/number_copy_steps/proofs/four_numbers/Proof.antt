@@ -2,7 +2,7 @@
 -- Assumes nothing.
 use Rattle.endian_rules.specs.Numbers.{number_at}
 use Rattle.endian_rules.specs.declared.Order.TheVariants.{Big}
-use Rattle.copy_rules.proofs.Runs.{four-stored}
+use Rattle.copy_rules.proofs.Runs.{four_stored}
 use borrow.Author.Rules.{rules}
 use Rattle.number_copy_steps.proofs.four_numbers.Statement.{statement}
 use Rattle.number_copy_steps.proofs.four_numbers.Tie as tie
@@ -52,7 +52,7 @@ same_length c = search rules
 returns : tie.Need-returns
 returns c =
     let s = c.before.before.before.before.before.before in
-    four-stored (number_at Big s.args.width s.args.file.now) s.args.at s.args.step s.args.out.now s.requires.0
+    four_stored (number_at Big s.args.width s.args.file.now) s.args.at s.args.step s.args.out.now s.requires.0
     c.before.before.before.read_number.ensures
     c.before.before.read-number2.ensures
     c.before.read-number3.ensures

@@ -4,7 +4,7 @@ use Prim.Native.Nat.{◌+◌, ◌-◌, ◌*◌, ◌^◌, ◌<◌}
 use native.Mathlib.Omega.{arith}
 use Rattle.endian_rules.specs.Numbers.{number_at}
 use Rattle.endian_rules.specs.declared.Order.TheVariants.{Big}
-use Rattle.copy_rules.proofs.Runs.{Filled, none_filled, inside-further, four-filled, rest-inside, rest-filled}
+use Rattle.copy_rules.proofs.Runs.{Filled, none_filled, inside_further, four_filled, rest_inside, rest_filled}
 use Rattle.number_copy_steps.proofs.numbers_by_fours.Statement.{statement}
 use Rattle.number_copy_steps.proofs.numbers_by_fours.Tie as tie
 
@@ -44,14 +44,14 @@ part-four-numbers-end c = omega arith
 four-numbers-requires : tie.Need-four-numbers-requires invariant-loop decreases-loop
 four-numbers-requires c κs =
     let s = c.before.before.before.before.before in
-    (omega arith, (s.requires.0, inside-further _ _ _ _ _ s.requires.1 c.before.before.loop.i 3 (omega arith)))
+    (omega arith, (s.requires.0, inside_further _ _ _ _ _ s.requires.1 c.before.before.loop.i 3 (omega arith)))
 
 loop-less : tie.Need-loop-smaller invariant-loop decreases-loop
 loop-less c = omega arith
 
 loop-again : tie.Need-loop-preserved invariant-loop decreases-loop
 loop-again c =
-    four-filled c.before.before.before.before.before.loop.invariant.0 _ _ c.before.before.before.before.before.before.before.before.requires.1 (omega arith)
+    four_filled c.before.before.before.before.before.loop.invariant.0 _ _ c.before.before.before.before.before.before.before.before.requires.1 (omega arith)
     c.before.before.before.before.loop-test.true
     c.before.before.four-numbers.ensures
 
@@ -76,13 +76,13 @@ part-numbers-singly-end c = omega arith
 numbers-singly-requires : tie.Need-numbers-singly-requires invariant-loop decreases-loop
 numbers-singly-requires c κs =
     let s = c.before.before.before.before.before in
-    (s.requires.0, rest-inside c.before.before.loop.invariant.0 _ _ s.requires.1)
+    (s.requires.0, rest_inside c.before.before.loop.invariant.0 _ _ s.requires.1)
 
 same_length : tie.Need-same-length invariant-loop decreases-loop
 same_length c = omega arith
 
 returns : tie.Need-returns invariant-loop decreases-loop
-returns c = rest-filled c.before.before.before.before.before.loop.invariant.0 c.before.before.numbers-singly.ensures
+returns c = rest_filled c.before.before.before.before.before.loop.invariant.0 c.before.before.numbers-singly.ensures
 
 pub numbers-by-fours-spec : {M : Type 1} → statement M
 numbers-by-fours-spec =

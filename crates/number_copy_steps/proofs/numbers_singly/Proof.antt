@@ -3,7 +3,7 @@
 use Prim.Native.Nat.{◌-◌}
 use native.Mathlib.Omega.{arith}
 use Rattle.endian_rules.specs.Numbers.{number_at}
-use Rattle.copy_rules.proofs.Runs.{Filled, none_filled, one-filled, all-filled}
+use Rattle.copy_rules.proofs.Runs.{Filled, none_filled, one_filled, all_filled}
 use Rattle.number_copy_steps.proofs.numbers_singly.Statement.{statement}
 use Rattle.number_copy_steps.proofs.numbers_singly.Tie as tie
 
@@ -40,13 +40,13 @@ loop-less : tie.Need-loop-smaller invariant-loop decreases-loop
 loop-less c = omega arith
 
 loop-again : tie.Need-loop-preserved invariant-loop decreases-loop
-loop-again c = one-filled c.before.before.loop.invariant c.before.loop-test.true c.read_number.ensures
+loop-again c = one_filled c.before.before.loop.invariant c.before.loop-test.true c.read_number.ensures
 
 same_length : tie.Need-same-length invariant-loop decreases-loop
 same_length c = c.before.loop.invariant.long
 
 returns : tie.Need-returns invariant-loop decreases-loop
-returns c = all-filled c.before.loop.invariant c.loop-test.false
+returns c = all_filled c.before.loop.invariant c.loop-test.false
 
 pub numbers-singly-spec : {M : Type 1} → statement M
 numbers-singly-spec =

@@ -2,13 +2,13 @@
 -- Assumes nothing.
 use Prim.Native.Nat.{◌≤◌}
 use native.Mathlib.Omega.{arith}
-use Rattle.area_rules.proofs.Prefixes.{code-most}
+use Rattle.area_rules.proofs.Prefixes.{code_most}
 use borrow.Author.Rules.{rules}
 use Rattle.prefix_lengths.proofs.given_length.Statement.{statement}
 use Rattle.prefix_lengths.proofs.given_length.Tie as tie
 
 code : (c : tie.After-validity-length) → c.validity-length.result ≤ 4
-code c = omega (arith, c.validity-length.ensures, code-most c.before.args.«no_code»)
+code c = omega (arith, c.validity-length.ensures, code_most c.before.args.«no_code»)
 
 validity-length-requires : tie.Need-validity-length-requires
 validity-length-requires c κs = search rules

@@ -13,11 +13,11 @@ use Rattle.area_blocks.specs.contracts.block_bytes as callee
 use Rattle.area_blocks.proofs.block_bytes.Met as Callee-met
 use Rattle.area_blocks.proofs.block_bytes.Symbol as callee-def
 use Rattle.walks.proofs.Calls.{informs}
-use Rattle.walks.proofs.Known.{Known, passed-as}
+use Rattle.walks.proofs.Known.{Known, passed_as}
 use Rattle.walks.proofs.Locals.{holding, starts, frees_all, at}
 use Rattle.walks.proofs.Slices.{member}
 use Rattle.reader.proofs.Calls.{Opens, opened}
-use Rattle.reader.proofs.Known.{a_block, bytes, a-reader}
+use Rattle.reader.proofs.Known.{a_block, bytes, a_reader}
 use Rattle.reader.specs.contracts.block as self
 use Rattle.reader.proofs.block.Code as code
 use Rattle.reader.specs.contracts.block.Key as key
@@ -35,7 +35,7 @@ module _ {M : Type 1} {𝓤 : Ura M} (𝓛 : Logic 𝓤) (C : Calls 𝓤 𝓛.H)
 
   walk : Opens 𝓛 beside answer (C callee-def.name) (WpFn 𝓤 H C Λ code.function)
   walk κs d a ts K K' says =
-      qed 𝓛 (raw (C callee-def.name _ K) ∷ []) ∵ starts 𝓛 ! C Λ code.function (passed-as κs (a-reader ∷ beside) (d, a)) K' (ts.0, ts.1.1.1) (λ l.
+      qed 𝓛 (raw (C callee-def.name _ K) ∷ []) ∵ starts 𝓛 ! C Λ code.function (passed_as κs (a_reader ∷ beside) (d, a)) K' (ts.0, ts.1.1.1) (λ l.
       -- [the call; _0; …; _4; …]: local j stands at 1 + 2 · j
       assigns ! (of_opd ! (member ! 3 0 refl refl refl)) (from ! (stop !)) (init ! 7 refl ts.1.0) $
       assigns ! (of_opd ! (member ! 3 1 refl refl refl)) (from ! (stop !)) (init ! 9 refl ts.1.1.0) $

@@ -16,11 +16,11 @@ use Rattle.grid_copies.specs.contracts.copy_by_rows as callee
 use Rattle.grid_copies.proofs.copy_by_rows.Met as Callee-met
 use Rattle.grid_copies.proofs.copy_by_rows.Symbol as callee-def
 use Rattle.walks.proofs.Calls.{informs}
-use Rattle.walks.proofs.Known.{Known, one_of, passed-as}
+use Rattle.walks.proofs.Known.{Known, one_of, passed_as}
 use Rattle.walks.proofs.Locals.{holding, starts, frees_all, at}
-use Rattle.walks.proofs.Slices.{member, lends-on}
+use Rattle.walks.proofs.Slices.{member, lends_on}
 use Rattle.reader.proofs.Calls.{Opens, opened}
-use Rattle.reader.proofs.Known.{output, a-reader}
+use Rattle.reader.proofs.Known.{output, a_reader}
 use Rattle.reader.specs.contracts.copy_by_rows as self
 use Rattle.reader.proofs.copy_by_rows.Code as code
 use Rattle.reader.specs.contracts.copy_by_rows.Key as key
@@ -38,12 +38,12 @@ module _ {M : Type 1} {𝓤 : Ura M} (𝓛 : Logic 𝓤) (C : Calls 𝓤 𝓛.H)
 
   walk : Opens 𝓛 beside answer (C callee-def.name) (WpFn 𝓤 H C Λ code.function)
   walk κs d a ts K K' says =
-      qed 𝓛 (raw (C callee-def.name _ K) ∷ []) ∵ starts 𝓛 ! C Λ code.function (passed-as κs (a-reader ∷ beside) (d, a)) K' (ts.0, ts.1.1.1) (λ l.
+      qed 𝓛 (raw (C callee-def.name _ K) ∷ []) ∵ starts 𝓛 ! C Λ code.function (passed_as κs (a_reader ∷ beside) (d, a)) K' (ts.0, ts.1.1.1) (λ l.
       -- [the call; _0; …; _6; …]: local j stands at 1 + 2 · j
       assigns ! (of_opd ! (member ! 3 0 refl refl refl)) (from ! (stop !)) (init ! 7 refl ts.1.0) $
       assigns ! (of_opd ! (member ! 3 1 refl refl refl)) (from ! (stop !)) (init ! 9 refl ts.1.1.0) $
       -- the output is lent on
-      lends-on ! 5 11 13 refl refl refl refl refl refl (tt, tt) refl refl refl ts.1.1.1.0 $
+      lends_on ! 5 11 13 refl refl refl refl refl refl (tt, tt) refl refl refl ts.1.1.1.0 $
       calls ! fm (λ u. raw (K u)) (and_then ! (at ! 7 refl) (and_then ! (at ! 9 refl) (and_then ! (at ! 13 refl) (no_more !)))) (λ u.
       informs ! tt (says u) (λ typed. land ! (from ! (stop !)) (init ! 1 refl typed.0) $ returns ! (look ! 1 refl) $
       frees_all 𝓛 ! (_ ∷ []) _ (holding (_ ∷ _ ∷ _ ∷ _ ∷ _ ∷ _ ∷ _ ∷ [])) (done !))))

@@ -16,11 +16,11 @@ use Rattle.area_lines.specs.contracts.copy_line as callee
 use Rattle.area_lines.proofs.copy_line.Met as Callee-met
 use Rattle.area_lines.proofs.copy_line.Symbol as callee-def
 use Rattle.walks.proofs.Calls.{informs}
-use Rattle.walks.proofs.Known.{Known, one_of, passed-as}
+use Rattle.walks.proofs.Known.{Known, one_of, passed_as}
 use Rattle.walks.proofs.Locals.{holding, starts, frees_all, at}
-use Rattle.walks.proofs.Slices.{member, lends-on}
+use Rattle.walks.proofs.Slices.{member, lends_on}
 use Rattle.reader.proofs.Calls.{Opens, opened}
-use Rattle.reader.proofs.Known.{a-slot-or-band, a-number, output, a-reader}
+use Rattle.reader.proofs.Known.{a_slot_or_band, a_number, output, a_reader}
 use Rattle.reader.specs.contracts.copy_line as self
 use Rattle.reader.proofs.copy_line.Code as code
 use Rattle.reader.specs.contracts.copy_line.Key as key
@@ -28,7 +28,7 @@ use Rattle.reader.proofs.copy_line.Statement.{statement}
 
 -- line, slot or band, and output
 abbrev beside : List (Known 2)
-beside = a-number ∷ a-slot-or-band ∷ output u32 ∷ []
+beside = a_number ∷ a_slot_or_band ∷ output u32 ∷ []
 
 abbrev answer : Known 2
 answer = one_of Answer.the_type Answer'.the_laws tt
@@ -38,12 +38,12 @@ module _ {M : Type 1} {𝓤 : Ura M} (𝓛 : Logic 𝓤) (C : Calls 𝓤 𝓛.H)
 
   walk : Opens 𝓛 beside answer (C callee-def.name) (WpFn 𝓤 H C Λ code.function)
   walk κs d a ts K K' says =
-      qed 𝓛 (raw (C callee-def.name _ K) ∷ []) ∵ starts 𝓛 ! C Λ code.function (passed-as κs (a-reader ∷ beside) (d, a)) K' (ts.0, ts.1.1.1) (λ l.
+      qed 𝓛 (raw (C callee-def.name _ K) ∷ []) ∵ starts 𝓛 ! C Λ code.function (passed_as κs (a_reader ∷ beside) (d, a)) K' (ts.0, ts.1.1.1) (λ l.
       -- [the call; _0; …; _8; …]: local j stands at 1 + 2 · j
       assigns ! (of_opd ! (member ! 3 0 refl refl refl)) (from ! (stop !)) (init ! 11 refl ts.1.0) $
       assigns ! (of_opd ! (member ! 3 1 refl refl refl)) (from ! (stop !)) (init ! 13 refl ts.1.1.0) $
       -- the output is lent on
-      lends-on ! 9 15 17 refl refl refl refl refl refl (tt, tt) refl refl refl ts.1.1.1.1.1.0 $
+      lends_on ! 9 15 17 refl refl refl refl refl refl (tt, tt) refl refl refl ts.1.1.1.1.1.0 $
       calls ! fm (λ u. raw (K u)) (and_then ! (at ! 11 refl)
       (and_then ! (at ! 13 refl) (and_then ! (at ! 5 refl) (and_then ! (at ! 7 refl) (and_then ! (at ! 17 refl) (no_more !)))))) (λ u.
       informs ! tt (says u) (λ typed. land ! (from ! (stop !)) (init ! 1 refl typed.0) $ returns ! (look ! 1 refl) $

@@ -15,11 +15,11 @@ use Rattle.reads.specs.contracts.read_field as callee
 use Rattle.reads.proofs.read_field.Met as Callee-met
 use Rattle.reads.proofs.read_field.Symbol as callee-def
 use Rattle.walks.proofs.Calls.{informs}
-use Rattle.walks.proofs.Known.{Known, one_of, passed-as}
+use Rattle.walks.proofs.Known.{Known, one_of, passed_as}
 use Rattle.walks.proofs.Locals.{holding, starts, frees_all, at}
 use Rattle.walks.proofs.Slices.{member}
 use Rattle.reader.proofs.Calls.{Opens, opened}
-use Rattle.reader.proofs.Known.{a-number, a-reader}
+use Rattle.reader.proofs.Known.{a_number, a_reader}
 use Rattle.reader.specs.contracts.field as self
 use Rattle.reader.proofs.field.Code as code
 use Rattle.reader.specs.contracts.field.Key as key
@@ -27,7 +27,7 @@ use Rattle.reader.proofs.field.Statement.{statement}
 
 -- row, column and position
 abbrev beside : List (Known 1)
-beside = a-number ∷ a-number ∷ a-number ∷ []
+beside = a_number ∷ a_number ∷ a_number ∷ []
 
 abbrev answer : Known 1
 answer = one_of Answer.the_type Answer'.the_laws tt
@@ -37,7 +37,7 @@ module _ {M : Type 1} {𝓤 : Ura M} (𝓛 : Logic 𝓤) (C : Calls 𝓤 𝓛.H)
 
   walk : Opens 𝓛 beside answer (C callee-def.name) (WpFn 𝓤 H C Λ code.function)
   walk κs d a ts K K' says =
-      qed 𝓛 (raw (C callee-def.name _ K) ∷ []) ∵ starts 𝓛 ! C Λ code.function (passed-as κs (a-reader ∷ beside) (d, a)) K' (ts.0, ts.1.1.1) (λ l.
+      qed 𝓛 (raw (C callee-def.name _ K) ∷ []) ∵ starts 𝓛 ! C Λ code.function (passed_as κs (a_reader ∷ beside) (d, a)) K' (ts.0, ts.1.1.1) (λ l.
       -- [the call; _0; …; _6; …]: local j stands at 1 + 2 · j
       assigns ! (of_opd ! (member ! 3 0 refl refl refl)) (from ! (stop !)) (init ! 11 refl ts.1.0) $
       assigns ! (of_opd ! (member ! 3 1 refl refl refl)) (from ! (stop !)) (init ! 13 refl ts.1.1.0) $

@@ -13,9 +13,9 @@ use Rattle.refusal_rules.specs.contracts.NumberAnswer as Answer
 use Rattle.refusal_rules.proofs.NumberAnswer.TheLaws as Answer'
 use Rattle.reads.specs.contracts.read_sample as read_sample
 use Rattle.walks.proofs.Calls.{informs}
-use Rattle.walks.proofs.Known.{Known, one_of, passed-as}
+use Rattle.walks.proofs.Known.{Known, one_of, passed_as}
 use Rattle.walks.proofs.Locals.{holding, starts, frees_all, at}
-use Rattle.reader.proofs.Known.{a-number, a-slot-or-band, bytes, a-layout}
+use Rattle.reader.proofs.Known.{a_number, a_slot_or_band, bytes, a_layout}
 use Rattle.reader.proofs.Making.{Passes, passed}
 use Rattle.reader.proofs.new.Met as new-met
 use Rattle.reader.proofs.new.Symbol as new-def
@@ -28,7 +28,7 @@ use Rattle.reader.proofs.read_through.Statement.{statement}
 
 -- line, element, and slot or band
 abbrev beside : List (Known 1)
-beside = a-number ∷ a-number ∷ a-slot-or-band ∷ []
+beside = a_number ∷ a_number ∷ a_slot_or_band ∷ []
 
 abbrev answer : Known 1
 answer = one_of Answer.the_type Answer'.the_laws tt
@@ -38,7 +38,7 @@ module _ {M : Type 1} {𝓤 : Ura M} (𝓛 : Logic 𝓤) (C : Calls 𝓤 𝓛.H)
 
   walk : Passes 𝓛 beside answer (C new-def.name) (C sample-def.name) (WpFn 𝓤 H C Λ code.function)
   walk κs a ts K K₁ K' goes_on says =
-      qed 𝓛 (raw (C new-def.name _ K) ∷ []) ∵ starts 𝓛 ! C Λ code.function (passed-as κs (bytes ∷ a-layout ∷ beside) a) K' ts (λ l.
+      qed 𝓛 (raw (C new-def.name _ K) ∷ []) ∵ starts 𝓛 ! C Λ code.function (passed_as κs (bytes ∷ a_layout ∷ beside) a) K' ts (λ l.
       -- [the call; _0; …; _6; …]: local j stands at 1 + 2 · j
       calls ! fm (λ w. raw (K w)) (and_then ! (at ! 3 refl) (and_then ! (at ! 5 refl) (no_more !))) (λ w. informs ! tt (goes_on w) (λ typed.
       land ! (from ! (stop !)) (init ! 13 refl typed.0) $

@@ -1,7 +1,7 @@
 -- `stores::store` meets its contract: the number is put at the place, and a refusal is passed on.
 -- Assumes nothing.
 use mathlib.Core.Path.{sym, ap, ◌∙◌}
-use Rattle.refusal_rules.specs.Answers.{placeSays}
+use Rattle.refusal_rules.specs.Answers.{place_says}
 use Rattle.store_theory.specs.Plans.{outcome}
 use Rattle.value_rules.proofs.Reading.{place-room}
 use Rattle.store_rules.specs.Stores.{put_at}
@@ -19,7 +19,7 @@ enum-known-place : tie.Need-enum-known-place
 enum-known-place c = search rules
 
 put-requires : tie.Need-put-requires
-put-requires c κs = place-room _ _ _ _ (sym c.before.before.before.before.IsPlace-in.ensures ∙ ap placeSays c.before.before.place.given.1)
+put-requires c κs = place-room _ _ _ _ (sym c.before.before.before.before.IsPlace-in.ensures ∙ ap place_says c.before.before.place.given.1)
 
 enum-known-refusal : tie.Need-enum-known-refusal
 enum-known-refusal c = search rules

@@ -5,8 +5,8 @@ use mir.Syntax.{w32}
 use mir.Val.{to_z, of_z}
 use Rattle.value_rules.specs.declared.ValueName.TheVariants.{Point}
 use Rattle.store_rules.specs.Stores.{point}
-use Rattle.store_rules.proofs.Single.{store-by-place}
-use Rattle.store_rules.specs.Answers.{storeAt}
+use Rattle.store_rules.proofs.Single.{store_by_place}
+use Rattle.store_rules.specs.Answers.{store_at}
 use borrow.Author.Rules.{rules}
 use Rattle.stores.proofs.store_point.Statement.{statement}
 use Rattle.stores.proofs.store_point.Tie as tie
@@ -25,8 +25,8 @@ returns c =
     let a = c.before.before.before.before.before.before.args in
     let same : to_z w32 (of_z w32 a.value) ≡ a.value = search rules in
     c.before.before.store.ensures
-    ∙ ap (storeAt a.file.now a.layout (Point a.row a.column)) (c.before.before.before.unsigned.ensures ∙ ap (of_z w32) same)
-    ∙ sym (store-by-place a.file.now a.layout (point a.row a.column a.value))
+    ∙ ap (store_at a.file.now a.layout (Point a.row a.column)) (c.before.before.before.unsigned.ensures ∙ ap (of_z w32) same)
+    ∙ sym (store_by_place a.file.now a.layout (point a.row a.column a.value))
 
 pub store-point-spec : {M : Type 1} → statement M
 store-point-spec = tie.close (tie.spec unsigned-requires store-requires same_length returns)

@@ -4,14 +4,14 @@ use mathlib.Core.Path.{◌≡◌, refl, ◌∙◌}
 use Prim.Native.Nat.{◌-◌, ◌≤◌}
 use native.Mathlib.Omega.{arith}
 use lib.ListN.{length, drop}
-use Rattle.listing_rules.specs.Steps.{appendBytes}
+use Rattle.listing_rules.specs.Steps.{append_bytes}
 use Rattle.listing_rules.proofs.Appending.{append-next, append-none}
 use borrow.Author.Rules.{rules}
 use Rattle.texts.proofs.append_bytes.Statement.{statement}
 use Rattle.texts.proofs.append_bytes.Tie as tie
 
 abbrev invariant-loop : tie.invariant-loop
-invariant-loop more t₀ i₀ t i = (i ≤ length more) × (appendBytes t (drop i more) ≡ appendBytes t₀ more)
+invariant-loop more t₀ i₀ t i = (i ≤ length more) × (append_bytes t (drop i more) ≡ append_bytes t₀ more)
 
 abbrev decreases-loop : tie.decreases-loop
 decreases-loop more t₀ i₀ t i = length more - i

@@ -3,9 +3,9 @@
 use mathlib.Core.Path.{sym, ap, ◌∙◌}
 use native.Mathlib.Omega.{arith}
 use Rattle.listing_rules.specs.Page.{labelled}
-use Rattle.listing_rules.specs.Steps.{appendBytes}
-use Rattle.listing_rules.proofs.Appending.{append-more}
-use Rattle.texts.proofs.Digits.{fewest-decimal}
+use Rattle.listing_rules.specs.Steps.{append_bytes}
+use Rattle.listing_rules.proofs.Appending.{append_more}
+use Rattle.texts.proofs.Digits.{fewest_decimal}
 use borrow.Author.Rules.{rules}
 use Rattle.texts.proofs.append_number.Statement.{statement}
 use Rattle.texts.proofs.append_number.Tie as tie
@@ -31,7 +31,7 @@ returns c =
     let s = c.before.before.before.before.before.before in
     let d = c.before.before.before.decimal in
     rw (c.append-bytes2.ensures, c.before.before.append-bytes.ensures)
-    (ap (appendBytes _) (d.ensures.1.1 ∙ fewest-decimal d.result s.args.n (omega arith) d.ensures.1.0) ∙ sym (append-more _ _ _))
+    (ap (append_bytes _) (d.ensures.1.1 ∙ fewest_decimal d.result s.args.n (omega arith) d.ensures.1.0) ∙ sym (append_more _ _ _))
 
 pub append-number-spec : {M : Type 1} → statement M
 append-number-spec =

@@ -1,8 +1,8 @@
 -- `value_places::place_of` meets its contract: each arm is a case of the definition.
 -- Assumes nothing.
 use mathlib.Core.Path.{ap}
-use Rattle.refusal_rules.specs.Answers.{placeSays}
-use Rattle.value_rules.specs.Places.{placeOf}
+use Rattle.refusal_rules.specs.Answers.{place_says}
+use Rattle.value_rules.specs.Places.{place_of}
 use borrow.Author.Rules.{rules}
 use Rattle.value_places.proofs.place_of.Statement.{statement}
 use Rattle.value_places.proofs.place_of.Tie as tie
@@ -71,40 +71,40 @@ field-place-requires : tie.Need-field-place-requires
 field-place-requires c κs = search rules
 
 returns : tie.Need-returns
-unfolding placeOf
-returns c = rw (c.before.before.before.before.before.name.given.1, c.before.before.layout.given.1) c.sample-place.ensures
+unfolding place_of
+returns c = rw (c.before.before.before.before.before.name.given.1, c.before.before.layout.given.1) c.sample_place_lem.ensures
 
 returns-2 : tie.Need-returns-2
-unfolding placeOf
-returns-2 c = rw (c.before.before.before.before.name.given.1, c.before.enum_told.given.1) (ap placeSays c.no_such.ensures)
+unfolding place_of
+returns-2 c = rw (c.before.before.before.before.name.given.1, c.before.enum_told.given.1) (ap place_says c.no_such.ensures)
 
 returns-3 : tie.Need-returns-3
-unfolding placeOf
-returns-3 c = rw (c.before.before.before.before.name.given.1, c.before.enum-told2.given.1) (ap placeSays c.no-such2.ensures)
+unfolding place_of
+returns-3 c = rw (c.before.before.before.before.name.given.1, c.before.enum-told2.given.1) (ap place_says c.no-such2.ensures)
 
 returns-4 : tie.Need-returns-4
-unfolding placeOf
-returns-4 c = rw (c.before.before.before.before.name2.given.1, c.before.enum-told3.given.1) (ap placeSays c.no-such3.ensures)
+unfolding place_of
+returns-4 c = rw (c.before.before.before.before.name2.given.1, c.before.enum-told3.given.1) (ap place_says c.no-such3.ensures)
 
 returns-5 : tie.Need-returns-5
-unfolding placeOf
-returns-5 c = rw (c.before.before.before.before.before.name2.given.1, c.before.before.layout2.given.1) c.point-place.ensures
+unfolding place_of
+returns-5 c = rw (c.before.before.before.before.before.name2.given.1, c.before.before.layout2.given.1) c.point_place_lem.ensures
 
 returns-6 : tie.Need-returns-6
-unfolding placeOf
-returns-6 c = rw (c.before.before.before.before.name2.given.1, c.before.enum-told4.given.1) (ap placeSays c.no-such4.ensures)
+unfolding place_of
+returns-6 c = rw (c.before.before.before.before.name2.given.1, c.before.enum-told4.given.1) (ap place_says c.no-such4.ensures)
 
 returns-7 : tie.Need-returns-7
-unfolding placeOf
-returns-7 c = rw (c.before.before.before.before.name3.given.1, c.before.enum-told5.given.1) (ap placeSays c.no-such5.ensures)
+unfolding place_of
+returns-7 c = rw (c.before.before.before.before.name3.given.1, c.before.enum-told5.given.1) (ap place_says c.no-such5.ensures)
 
 returns-8 : tie.Need-returns-8
-unfolding placeOf
-returns-8 c = rw (c.before.before.before.before.name3.given.1, c.before.enum-told6.given.1) (ap placeSays c.no-such6.ensures)
+unfolding place_of
+returns-8 c = rw (c.before.before.before.before.name3.given.1, c.before.enum-told6.given.1) (ap place_says c.no-such6.ensures)
 
 returns-9 : tie.Need-returns-9
-unfolding placeOf
-returns-9 c = rw (c.before.before.before.before.before.name3.given.1, c.before.before.layout3.given.1) c.field-place.ensures
+unfolding place_of
+returns-9 c = rw (c.before.before.before.before.before.name3.given.1, c.before.before.layout3.given.1) c.field_place_lem.ensures
 
 pub place-of-spec : {M : Type 1} → statement M
 place-of-spec =

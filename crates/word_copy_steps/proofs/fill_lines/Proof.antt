@@ -3,15 +3,15 @@
 use Prim.Native.Nat.{◌+◌, ◌-◌, ◌*◌, ◌≤◌}
 use native.Mathlib.Omega.{arith}
 use lib.ListN.{length}
-use Rattle.lists.proofs.Rows.{row_before}
-use Rattle.endian_rules.specs.Words.{signedAt}
-use Rattle.copy_rules.proofs.Runs.{LinesFilled, no-line-filled, line-length, line-filled, lines-over}
+use Rattle.lists.proofs.Rows.{row-before}
+use Rattle.endian_rules.specs.Words.{signed_at}
+use Rattle.copy_rules.proofs.Runs.{LinesFilled, no_line_filled, line_length_lem, line_filled, lines-over}
 use Rattle.word_copy_steps.proofs.fill_lines.Statement.{statement}
 use Rattle.word_copy_steps.proofs.fill_lines.Tie as tie
 
 abbrev invariant-loop : tie.invariant-loop
 invariant-loop order file lines out₀ count words k₀ out k =
-    (k ≤ count) × LinesFilled (λ j i. signedAt order file (lines.at + j * lines.across + i * lines.along)) words k out₀ out
+    (k ≤ count) × LinesFilled (λ j i. signed_at order file (lines.at + j * lines.across + i * lines.along)) words k out₀ out
 
 abbrev decreases-loop : tie.decreases-loop
 decreases-loop order file lines out₀ count words k₀ out k = count - k
@@ -21,7 +21,7 @@ room : (c : tie.In-loop invariant-loop decreases-loop) → let s = c.before.befo
     c.before.loop.k * s.args.lines.words + s.args.lines.words ≤ length s.args.out.now
 room c =
     let s = c.before.before.before in
-    omega (arith, row_before s.args.lines.words c.before.loop.k s.args.lines.count c.loop-test.true, s.requires.0)
+    omega (arith, row-before s.args.lines.words c.before.loop.k s.args.lines.count c.loop-test.true, s.requires.0)
 
 -- it has a first word, which is inside the file
 first_word : (c : tie.In-loop invariant-loop decreases-loop) → let s = c.before.before.before in let l = s.args.lines in
@@ -31,7 +31,7 @@ first_word c =
     s.requires.1.1 c.before.loop.k 0 c.loop-test.true s.requires.1.0
 
 loop-holds : tie.Need-loop-init invariant-loop decreases-loop
-loop-holds c = (omega arith, no-line-filled _ _ _)
+loop-holds c = (omega arith, no_line_filled _ _ _)
 
 mul-start : tie.Need-overflow-mul-start invariant-loop decreases-loop
 mul-start c = omega (arith, room c)
@@ -61,7 +61,7 @@ fill-words-requires : tie.Need-fill-words-requires invariant-loop decreases-loop
 fill-words-requires c κs =
     let s = c.before.before.before.before.before.before in
     let l = c.before.before.before.before.loop in
-    let places = line-length l.invariant.1 (room c.before.before.before) in
+    let places = line_length_lem l.invariant.1 (room c.before.before.before) in
     λ i h. s.requires.1.1 l.k i c.before.before.before.loop-test.true (omega (arith, places))
 
 add-k : tie.Need-overflow-add-k invariant-loop decreases-loop
@@ -73,7 +73,7 @@ loop-less c = omega arith
 loop-again : tie.Need-loop-preserved invariant-loop decreases-loop
 loop-again c =
     let room-left = room c.before.before.before.before.before in
-    (omega arith, line-filled c.before.before.before.before.before.before.loop.invariant.1 room-left c.before.fill-words.ensures)
+    (omega arith, line_filled c.before.before.before.before.before.before.loop.invariant.1 room-left c.before.fill-words.ensures)
 
 same_length : tie.Need-same-length invariant-loop decreases-loop
 same_length c = c.before.loop.invariant.1.long

@@ -1,10 +1,10 @@
 -- `word_copy_steps::four_words` meets its contract: the four words are stored one by one.
 -- Assumes nothing.
 use mathlib.Core.Path.{◌∙◌}
-use Rattle.endian_rules.specs.Words.{signedAt}
+use Rattle.endian_rules.specs.Words.{signed_at}
 use Rattle.endian_rules.specs.declared.Order.TheVariants.{Big}
 use Rattle.endian_rules.proofs.Signs.{same_word}
-use Rattle.copy_rules.proofs.Runs.{four-stored}
+use Rattle.copy_rules.proofs.Runs.{four_stored}
 use borrow.Author.Rules.{rules}
 use Rattle.word_copy_steps.proofs.four_words.Statement.{statement}
 use Rattle.word_copy_steps.proofs.four_words.Tie as tie
@@ -58,7 +58,7 @@ returns c =
     let second = c.before.before.read-signed2 in
     let third = c.before.read-signed3 in
     let fourth = c.read-signed4 in
-    four-stored (signedAt Big s.args.file.now) s.args.at s.args.step s.args.out.now s.requires.0
+    four_stored (signed_at Big s.args.file.now) s.args.at s.args.step s.args.out.now s.requires.0
     (same_word first.result first.type-inv ∙ first.ensures)
     (same_word second.result second.type-inv ∙ second.ensures)
     (same_word third.result third.type-inv ∙ third.ensures)

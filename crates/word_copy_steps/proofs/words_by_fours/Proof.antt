@@ -2,14 +2,14 @@
 -- Assumes nothing.
 use Prim.Native.Nat.{◌+◌, ◌-◌, ◌*◌, ◌^◌, ◌<◌}
 use native.Mathlib.Omega.{arith}
-use Rattle.endian_rules.specs.Words.{signedAt}
+use Rattle.endian_rules.specs.Words.{signed_at}
 use Rattle.endian_rules.specs.declared.Order.TheVariants.{Big}
-use Rattle.copy_rules.proofs.Runs.{Filled, none_filled, inside-further, four-filled, rest-inside, rest-filled}
+use Rattle.copy_rules.proofs.Runs.{Filled, none_filled, inside_further, four_filled, rest_inside, rest_filled}
 use Rattle.word_copy_steps.proofs.words_by_fours.Statement.{statement}
 use Rattle.word_copy_steps.proofs.words_by_fours.Tie as tie
 
 abbrev invariant-loop : tie.invariant-loop
-invariant-loop file at step out₀ n i₀ out i = Filled (signedAt Big file) at step i out₀ out × (at + i * step < 2 ^ 64)
+invariant-loop file at step out₀ n i₀ out i = Filled (signed_at Big file) at step i out₀ out × (at + i * step < 2 ^ 64)
 
 abbrev decreases-loop : tie.decreases-loop
 decreases-loop file at step out₀ n i₀ out i = n - i
@@ -42,14 +42,14 @@ part-four-words-end : tie.Need-slice-bounds-four-words-end invariant-loop decrea
 part-four-words-end c = omega arith
 
 four-words-requires : tie.Need-four-words-requires invariant-loop decreases-loop
-four-words-requires c κs = (omega arith, inside-further _ _ 4 _ _ c.before.before.before.before.requires c.before.before.loop.i 3 (omega arith))
+four-words-requires c κs = (omega arith, inside_further _ _ 4 _ _ c.before.before.before.before.requires c.before.before.loop.i 3 (omega arith))
 
 loop-less : tie.Need-loop-smaller invariant-loop decreases-loop
 loop-less c = omega arith
 
 loop-again : tie.Need-loop-preserved invariant-loop decreases-loop
 loop-again c =
-    four-filled c.before.before.before.before.loop.invariant.0 4 _ c.before.before.before.before.before.before.requires (omega arith)
+    four_filled c.before.before.before.before.loop.invariant.0 4 _ c.before.before.before.before.before.before.requires (omega arith)
     c.before.before.before.loop-test.true
     c.before.four-words.ensures
 
@@ -72,13 +72,13 @@ part-words-singly-end : tie.Need-slice-bounds-words-singly-end invariant-loop de
 part-words-singly-end c = omega arith
 
 words-singly-requires : tie.Need-words-singly-requires invariant-loop decreases-loop
-words-singly-requires c κs = rest-inside c.before.before.loop.invariant.0 4 _ c.before.before.before.before.requires
+words-singly-requires c κs = rest_inside c.before.before.loop.invariant.0 4 _ c.before.before.before.before.requires
 
 same_length : tie.Need-same-length invariant-loop decreases-loop
 same_length c = omega arith
 
 returns : tie.Need-returns invariant-loop decreases-loop
-returns c = rest-filled c.before.before.before.before.loop.invariant.0 c.before.words-singly.ensures
+returns c = rest_filled c.before.before.before.before.loop.invariant.0 c.before.words-singly.ensures
 
 pub words-by-fours-spec : {M : Type 1} → statement M
 words-by-fours-spec =

@@ -3,14 +3,14 @@
 use mathlib.Core.Path.{◌∙◌}
 use Prim.Native.Nat.{◌-◌}
 use native.Mathlib.Omega.{arith}
-use Rattle.endian_rules.specs.Words.{signedAt}
+use Rattle.endian_rules.specs.Words.{signed_at}
 use Rattle.endian_rules.proofs.Signs.{same_word}
-use Rattle.copy_rules.proofs.Runs.{Filled, none_filled, one-filled, all-filled}
+use Rattle.copy_rules.proofs.Runs.{Filled, none_filled, one_filled, all_filled}
 use Rattle.word_copy_steps.proofs.words_singly.Statement.{statement}
 use Rattle.word_copy_steps.proofs.words_singly.Tie as tie
 
 abbrev invariant-loop : tie.invariant-loop
-invariant-loop order file at step out₀ n i₀ out i = Filled (signedAt order file) at step i out₀ out
+invariant-loop order file at step out₀ n i₀ out i = Filled (signed_at order file) at step i out₀ out
 
 abbrev decreases-loop : tie.decreases-loop
 decreases-loop order file at step out₀ n i₀ out i = n - i
@@ -41,14 +41,14 @@ loop-less c = omega arith
 
 loop-again : tie.Need-loop-preserved invariant-loop decreases-loop
 loop-again c =
-    one-filled c.before.before.loop.invariant c.before.loop-test.true
+    one_filled c.before.before.loop.invariant c.before.loop-test.true
     (same_word c.read-signed.result c.read-signed.type-inv ∙ c.read-signed.ensures)
 
 same_length : tie.Need-same-length invariant-loop decreases-loop
 same_length c = c.before.loop.invariant.long
 
 returns : tie.Need-returns invariant-loop decreases-loop
-returns c = all-filled c.before.loop.invariant c.loop-test.false
+returns c = all_filled c.before.loop.invariant c.loop-test.false
 
 pub words-singly-spec : {M : Type 1} → statement M
 words-singly-spec =
