@@ -1,6 +1,6 @@
 -- The blocks of an accepted AREA file are inside it, and no two of them share a byte.
 -- Assumes nothing.
-use mathlib.Core.Path.{◌≡◌, refl, sym, ◌∙◌}
+use mathlib.Core.Path.{◌≡◌, refl, sym, subst, ◌∙◌}
 use mathlib.Core.Bool.{true, not}
 use mathlib.Core.Logic.{◌⊎◌, inl, inr, ⊎_elim}
 use mathlib.Core.List.{List, [], ◌∷◌}
@@ -47,6 +47,7 @@ module _ (x end : ℕ) where
   -- it is at most every start that is greater than x
   pub next_least : (ss : List ℕ) (t : ℕ) → Among t ss → x < t → next_start x end ss ≤ t
   unfolding next_start
+  next_least [] t m h = elim m [ ]
   next_least (s ∷ ss) t m h =
       ⊎_elim
       (λ p. ⊎_elim (λ same. omega (arith, p.0, same)) (λ rest. omega (arith, p.0, p.1.1, next_least ss t rest h)) m)
@@ -60,7 +61,7 @@ module _ (x end : ℕ) where
   next_among [] = inl refl
   next_among (s ∷ ss) =
       ⊎_elim (λ p. inr (inl p.0, omega (arith, p.0, p.1.0)))
-      (λ p. ⊎_elim (λ e. inl (p.0 ∙ e)) (λ q. inr (rw p.0 (inr q.0, q.1))) (next_among ss)) (nearer_is x s (next_start x end ss))
+      (λ p. ⊎_elim (λ e. inl (p.0 ∙ e)) (λ q. inr (subst (λ (m : ℕ). Among m (s ∷ ss) × (x < m)) (sym p.0) (inr q.0, q.1))) (next_among ss)) (nearer_is x s (next_start x end ss))
 
 -- ---- the end of a block that may be absent, in document 01's words
 

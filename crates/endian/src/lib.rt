@@ -1,4 +1,5 @@
 // Signed words and byte orders: a word's 32 bits as a signed and as an unsigned number, a bound on a signed word, and a number for each byte order.
+#![tactic(auto)]
 ghost use Rattle.std.specs.Prelude.{◌≡◌};
 ghost use Rattle.std.specs.Int.{w32};
 ghost use Rattle.std.proofs.Common.{to_z, of_z};
@@ -29,6 +30,7 @@ pub fn unsigned(v: i32) -> u32
 }
 
 // Whether a raw word is, as the signed word that it is, at least `low`. A negative word never is.
+#[tactic(auto, unfolding(endian_rules::specs::Words::at_least))]
 pub fn at_least(low: usize, n: u32) -> bool
     ensures { result ≡ at_least low n }
 {

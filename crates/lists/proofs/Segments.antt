@@ -24,6 +24,10 @@ segment_next ns k = let next : k + 1 ≡ suc k = omega arith in ap (segment_offs
 
 -- a later segment starts at the end of an earlier one, or behind it
 pub segment_before : (ns : List ℕ) (j k : ℕ) → j < k → segment_offset ns j + segment_length ns j ≤ segment_offset ns k
+segment_before [] zero zero h = elim h [ ]
+segment_before [] (suc j) zero h = elim h [ ]
+segment_before (n ∷ ns) zero zero h = elim h [ ]
+segment_before (n ∷ ns) (suc j) zero h = elim h [ ]
 segment_before [] zero (suc k) h = omega arith
 segment_before [] (suc j) (suc k) h = omega arith
 segment_before (n ∷ ns) zero (suc k) h = omega arith

@@ -1,4 +1,5 @@
 // One rule of a table applied after another, and the tests that rules are made of.
+#![tactic(auto)]
 ghost use Rattle.std.specs.Prelude.{◌≡◌, eqb};
 ghost use Rattle.lists.specs.Choices.{both, either};
 ghost use Rattle.refusal_rules.specs.Rules.{rule, judge, first};
@@ -7,6 +8,7 @@ ghost use Rattle.refusal_rules.specs.Tests.{within};
 use refusal_rules::{Refusal, Verdict};
 
 // One rule more: a fault stays as it is, and after a pass a rule that does not hold is a fault with its own number and place.
+#[tactic(auto, unfolding(refusal_rules::specs::Rules::first, refusal_rules::specs::Rules::judge))]
 pub fn check(verdict: Verdict, holds: bool, number: u32, place: usize) -> Verdict
     ensures { result ≡ first verdict (judge (rule holds number place)) }
 {
@@ -26,6 +28,7 @@ pub fn check(verdict: Verdict, holds: bool, number: u32, place: usize) -> Verdic
 }
 
 // Whether a number is at least `low` and at most `high`.
+#[tactic(auto, unfolding(refusal_rules::specs::Tests::within))]
 pub fn within(low: u32, high: u32, n: u32) -> bool
     ensures { result ≡ within low high n }
 {
