@@ -1,4 +1,6 @@
 // AREA files, images: opening a file, and comparing layouts.
+#![tactic(auto)]
+
 ghost use Rattle.std.specs.Prelude.{◌≡◌, ◌≤◌, ◌++◌, length};
 ghost use Rattle.refusal_rules.specs.Tests.{same_numbers};
 ghost use Rattle.area_rules.specs.Rules.{directory_of, word_in};
@@ -16,6 +18,7 @@ use refusal_rules::{NO_BYTE_ORDER, Refusal, SHORT_FILE, Verdict};
 
 // The 64 words of a directory, read once in a byte order. Every rule is applied to them, and not to the file. W k, counted from 1, is
 // words[k - 1].
+#[tactic(auto, unfolding(area_rules::specs::Rules::directory_of, lists::specs::Lists::list_of))]
 fn read_directory(order: Order, file: &[u8]) -> [u32; 64]
     requires { 256 ≤ length file.now }
     ensures { result ≡ directory_of order file.now }
@@ -30,6 +33,7 @@ fn read_directory(order: Order, file: &[u8]) -> [u32; 64]
 }
 
 // The layout that the words of a file of `told` bytes give.
+#[tactic(auto, unfolding(area_rules::specs::Opening::area_layout_of, area_rules::specs::Rules::word_in))]
 fn layout_of_words(told: usize, order: Order, words: &[u32; 64]) -> AreaLayout
     ensures { result ≡ area_layout_of order told (word_in words.now) }
 {
@@ -59,6 +63,7 @@ fn layout_of_words(told: usize, order: Order, words: &[u32; 64]) -> AreaLayout
 }
 
 // Opens by the words of a directory, where W2 reads 4 in this order.
+#[tactic(auto, unfolding(area_rules::specs::Opening::open_area_words))]
 fn open_words(told: usize, order: Order, words: &[u32; 64]) -> AreaOpening
     ensures { area_says result ≡ open_area_words order told (word_in words.now) }
 {
@@ -109,6 +114,7 @@ pub fn open_told(told: usize, directory: &[u8]) -> AreaOpening
 }
 
 // Opens an AREA file, in the byte order in which word 2 reads 4. Refused as `open_told` at the file's own length.
+#[tactic(auto, unfolding(area_rules::specs::Opening::open_area))]
 pub fn open(file: &[u8]) -> AreaOpening
     ensures { area_says result ≡ open_area file.now }
 {
@@ -123,6 +129,7 @@ fn flag_number(t: bool) -> u32
 }
 
 // Whether two layouts have the same band map, starts of blocks and comment cards. What has been compared up to a field is named after it, here and below.
+#[tactic(auto, unfolding(refusal_rules::specs::Tests::same_numbers))]
 fn same_blocks(a: AreaLayout, b: AreaLayout) -> bool
     ensures { result ≡ same_numbers (block_numbers a) (block_numbers b) }
 {
@@ -136,6 +143,7 @@ fn same_blocks(a: AreaLayout, b: AreaLayout) -> bool
 }
 
 // Whether two layouts have the same line prefixes, and the same band map, starts of blocks and comment cards.
+#[tactic(auto, unfolding(refusal_rules::specs::Tests::same_numbers))]
 fn same_from_prefix(a: AreaLayout, b: AreaLayout) -> bool
     ensures { result ≡ same_numbers (prefix_numbers a ++ block_numbers a) (prefix_numbers b ++ block_numbers b) }
 {
@@ -153,6 +161,7 @@ fn same_from_prefix(a: AreaLayout, b: AreaLayout) -> bool
 }
 
 // Whether two AREA layouts are the same in every field.
+#[tactic(auto, unfolding(area_rules::specs::Opening::same_area, refusal_rules::specs::Tests::same_numbers))]
 pub fn same_area(a: AreaLayout, b: AreaLayout) -> bool
     ensures { result ≡ same_area a b }
 {

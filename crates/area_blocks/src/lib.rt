@@ -1,4 +1,6 @@
 // The blocks of an AREA file: where each lies, and its bytes handed back.
+#![tactic(auto)]
+
 ghost use Rattle.std.specs.Prelude.{◌≡◌, ◌<◌};
 ghost use Rattle.area_rules.specs.Blocks.{nearer_start, next_start, block_starts};
 ghost use Rattle.area_rules.specs.Samples.{AreaFits};
@@ -27,6 +29,7 @@ fn nearer_start(x: u32, s: u32, n: usize) -> usize
 }
 
 // The byte after a block that starts at x: the next greater start, or else the end of the file.
+#[tactic(auto, unfolding(area_rules::specs::Blocks::next_start))]
 fn end_of(l: AreaLayout, x: u32) -> usize
     ensures { result ≡ next_start x l.length (block_starts l) }
 {
@@ -37,6 +40,7 @@ fn end_of(l: AreaLayout, x: u32) -> usize
 }
 
 // The span of NAV, CAL or AUX, which starts at x and is absent where x is 0.
+#[tactic(auto, unfolding(area_part_rules::specs::Blocks::optional_block_of, refusal_rules::specs::Rules::first_fault, refusal_rules::specs::Rules::first, refusal_rules::specs::Rules::judge))]
 fn optional_span(l: AreaLayout, x: u32) -> SpanAnswer
     requires { (x ≡ 0 → ⊥) → x < l.length }
     ensures { span_says result ≡ optional_block_of l x }
@@ -55,6 +59,7 @@ fn optional_span(l: AreaLayout, x: u32) -> SpanAnswer
 }
 
 // The span of DATA, which has the bytes of its lines.
+#[tactic(auto, unfolding(area_part_rules::specs::Blocks::block_of, area_part_rules::specs::Blocks::block_rules, refusal_rules::specs::Rules::first_fault, refusal_rules::specs::Rules::first, refusal_rules::specs::Rules::judge))]
 fn data_span(l: AreaLayout) -> SpanAnswer
     requires { AreaFits l }
     ensures { span_says result ≡ block_of l Block.Data }
@@ -69,6 +74,7 @@ fn data_span(l: AreaLayout) -> SpanAnswer
 }
 
 // The span of AUDIT, which is straight after DATA, and absent where there are no comment cards.
+#[tactic(auto, unfolding(area_part_rules::specs::Blocks::block_of, area_part_rules::specs::Blocks::block_rules, refusal_rules::specs::Rules::first_fault, refusal_rules::specs::Rules::first, refusal_rules::specs::Rules::judge))]
 fn audit_span(l: AreaLayout) -> SpanAnswer
     requires { AreaFits l }
     ensures { span_says result ≡ block_of l Block.Audit }
@@ -89,6 +95,7 @@ fn audit_span(l: AreaLayout) -> SpanAnswer
 }
 
 // The span of a block of an accepted file.
+#[tactic(auto, unfolding(area_part_rules::specs::Blocks::block_of, area_part_rules::specs::Blocks::block_rules, refusal_rules::specs::Rules::first_fault, refusal_rules::specs::Rules::first, refusal_rules::specs::Rules::judge, area_part_rules::specs::Blocks::optional_block_of))]
 fn span_of(l: AreaLayout, block: Block) -> SpanAnswer
     requires { AreaFits l }
     ensures { span_says result ≡ block_of l block }

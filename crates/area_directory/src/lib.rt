@@ -1,4 +1,6 @@
 // The rules of the words of an AREA directory, as functions over its 64 words. W k, counted from 1, is words[k - 1].
+#![tactic(auto)]
+
 ghost use Rattle.std.specs.Prelude.{◌≡◌, ◌≤◌, leb, ltb, eqb};
 ghost use Rattle.lists.specs.Choices.{both, either};
 ghost use Rattle.refusal_rules.specs.Rules.{judge, first, first_fault};
@@ -12,6 +14,7 @@ use refusal::{and, check, or, within};
 use refusal_rules::{COUNT_OUT_OF_BOUNDS, MISPLACED, RULE_BROKEN, Verdict};
 
 // Refusal 3 at word k, after what came before, unless the word is from `low` to `high`.
+#[tactic(auto, unfolding(area_rules::specs::Rules::word_in))]
 fn count(verdict: Verdict, words: &[u32; 64], k: usize, low: u32, high: u32) -> Verdict
     requires { (1 ≤ k) × (k ≤ 64) }
     ensures { result ≡ first verdict (judge (area_count (word_in words.now) k low high)) }
@@ -32,6 +35,7 @@ fn is_width(n: u32) -> bool
 }
 
 // What the rules of the counts say. The verdict up to the rule of a word is named after it, here and below.
+#[tactic(auto, unfolding(area_rules::specs::Rules::word_in, area_rules::specs::Rules::area_count_rules, refusal_rules::specs::Rules::chained))]
 fn count_verdict(words: &[u32; 64]) -> Verdict
     ensures { result ≡ first_fault (area_count_rules (word_in words.now)) }
 {
@@ -47,6 +51,7 @@ fn count_verdict(words: &[u32; 64]) -> Verdict
 }
 
 // The line length that the words give, where the counts passed.
+#[tactic(auto, unfolding(area_rules::specs::Rules::word_in))]
 fn line_length_of(words: &[u32; 64]) -> usize
     requires { first_fault (area_count_rules (word_in words.now)) ≡ Verdict.Pass }
     ensures { result ≡ line_length_of (word_in words.now) }
@@ -63,6 +68,7 @@ fn end_of_audit(start: u32, lines: u32, line: usize, cards: u32) -> usize
 }
 
 // The byte after AUDIT that the words give, where the rules before passed.
+#[tactic(auto, unfolding(area_rules::specs::Rules::word_in))]
 fn audit_end_of(words: &[u32; 64]) -> usize
     requires { (first_fault (area_count_rules (word_in words.now)) ≡ Verdict.Pass) × (first_fault (area_shape_rules (word_in words.now)) ≡ Verdict.Pass) }
     ensures { result ≡ audit_end_of (word_in words.now) }
@@ -71,6 +77,7 @@ fn audit_end_of(words: &[u32; 64]) -> usize
 }
 
 // What the rules of the words that follow from others say, where the counts passed.
+#[tactic(auto, unfolding(area_rules::specs::Rules::word_in, area_rules::specs::Rules::area_shape_rules, refusal_rules::specs::Rules::chained))]
 fn shape_verdict(words: &[u32; 64]) -> Verdict
     requires { first_fault (area_count_rules (word_in words.now)) ≡ Verdict.Pass }
     ensures { result ≡ first_fault (area_shape_rules (word_in words.now)) }
@@ -92,6 +99,7 @@ fn block_start_fits(told: usize, start: u32, end: usize, x: u32, after: bool, un
 }
 
 // What the rules of the places say, in a file of `told` bytes, where the rules before passed.
+#[tactic(auto, unfolding(area_rules::specs::Rules::word_in, area_rules::specs::Rules::area_place_rules, refusal_rules::specs::Rules::chained))]
 fn place_verdict(told: usize, words: &[u32; 64]) -> Verdict
     requires { (first_fault (area_count_rules (word_in words.now)) ≡ Verdict.Pass) × (first_fault (area_shape_rules (word_in words.now)) ≡ Verdict.Pass) }
     ensures { result ≡ first_fault (area_place_rules told (word_in words.now)) }
@@ -114,6 +122,7 @@ fn place_verdict(told: usize, words: &[u32; 64]) -> Verdict
 
 // What the rules of counts and of the words that follow from them say of a directory's 64 words: 3 and 4 with document 01's places. These rules
 // look neither at a file nor at a start, but for whether W60 is 0.
+#[tactic(auto, unfolding(area_rules::specs::Rules::area_described_rules))]
 pub fn described_verdict(words: &[u32; 64]) -> Verdict
     ensures { result ≡ first_fault (area_described_rules (word_in words.now)) }
 {
@@ -124,6 +133,7 @@ pub fn described_verdict(words: &[u32; 64]) -> Verdict
 }
 
 // What all rules of the words but W2 say of a directory's 64 words and a file of `told` bytes: 3, 4 and 5 with document 01's places.
+#[tactic(auto, unfolding(area_rules::specs::Rules::area_described_rules, area_rules::specs::Rules::area_word_rules))]
 pub fn word_verdict(told: usize, words: &[u32; 64]) -> Verdict
     ensures { result ≡ first_fault (area_word_rules told (word_in words.now)) }
 {

@@ -1,4 +1,6 @@
 // The lines of an AREA file: the slot of a band, and one slot of one line copied into a lent output.
+#![tactic(auto)]
+
 ghost use Rattle.std.specs.Prelude.{◌≡◌};
 ghost use Rattle.refusal_rules.specs.Answers.{number_says, size_says};
 ghost use Rattle.area_rules.specs.Samples.{AreaOf};

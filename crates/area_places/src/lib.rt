@@ -1,5 +1,7 @@
 // Where the lines and samples of an AREA file lie, by a layout alone. A layout may be one that a caller has made up: where a field of it is above the bounds
 // that opening sets, there is no such value, and nothing is computed from it.
+#![tactic(auto)]
+
 ghost use Rattle.std.specs.Prelude.{◌≡◌, ◌≤◌};
 ghost use Rattle.refusal_rules.specs.Answers.{size_says, place_says};
 ghost use Rattle.refusal_rules.specs.Rules.{first_fault};
@@ -14,6 +16,7 @@ use refusal::{and, check};
 use refusal_rules::{NO_SUCH, NumberAnswer, Place, PlaceAnswer, SizeAnswer, Verdict};
 
 // Whether the fields that AREA addresses are computed from are within the bounds that opening sets.
+#[tactic(auto, unfolding(area_rules::specs::Bounds::area_bounded))]
 fn area_bounded(layout: AreaLayout) -> bool
     ensures { result ≡ area_bounded layout }
 {
@@ -33,6 +36,7 @@ fn line_length_in(layout: AreaLayout) -> usize
 }
 
 // How many bytes a line of an AREA file has, its prefix among them. Refused with 7 where the layout is above the bounds that opening sets.
+#[tactic(auto, unfolding(refusal_rules::specs::Rules::chained, area_rules::specs::Places::length_of_line))]
 pub fn line_length(layout: AreaLayout) -> SizeAnswer
     ensures { size_says result ≡ length_of_line layout }
 {
@@ -43,6 +47,7 @@ pub fn line_length(layout: AreaLayout) -> SizeAnswer
 }
 
 // How many bytes DATA of an AREA file has: those of all its lines. Refused as `line_length`.
+#[tactic(auto, unfolding(area_rules::specs::Places::length_of_data))]
 pub fn data_length(layout: AreaLayout) -> SizeAnswer
     ensures { size_says result ≡ length_of_data layout }
 {
@@ -65,6 +70,7 @@ fn line_at(layout: AreaLayout, line: u32) -> usize
 
 // The byte at which a line of an AREA file begins, with its prefix, the line counted from 0. Refused with 7 where there is no such line, or the layout is above the
 // bounds that opening sets.
+#[tactic(auto, unfolding(area_rules::specs::Places::line_rules, refusal_rules::specs::Rules::chained, area_rules::specs::Places::line_start_of))]
 pub fn line_start(layout: AreaLayout, line: u32) -> SizeAnswer
     ensures { size_says result ≡ line_start_of layout line }
 {
@@ -85,6 +91,7 @@ fn sample_address(layout: AreaLayout, line: u32, element: u32, slot: u32) -> usi
 }
 
 // What the rules of a sample of a line and an element say: 7 where there is no such line or element.
+#[tactic(auto, unfolding(area_rules::specs::Places::sample_rules, refusal_rules::specs::Rules::chained))]
 fn sample_verdict(layout: AreaLayout, line: u32, element: u32) -> Verdict
     ensures { result ≡ first_fault (sample_rules layout line element) }
 {
@@ -95,6 +102,7 @@ fn sample_verdict(layout: AreaLayout, line: u32, element: u32) -> Verdict
 
 // The place of a sample of an AREA file, named by line and element, both counted from 0, and slot or band. Refused with 4 at 19 where a band is named and the band
 // map is unusable, then with 7 where there is no such line, element, slot or band, or the layout is above the bounds that opening sets.
+#[tactic(auto, unfolding(area_rules::specs::Places::sample_place))]
 pub fn sample_place(layout: AreaLayout, line: u32, element: u32, which: SlotOrBand) -> PlaceAnswer
     ensures { place_says result ≡ sample_place layout line element which }
 {

@@ -1,4 +1,6 @@
 // The regions of a line prefix of an AREA file, the padding among them: where each lies, and its bytes handed back.
+#![tactic(auto)]
+
 ghost use Rattle.std.specs.Prelude.{◌≡◌, ◌≤◌};
 ghost use Rattle.lists.specs.Segments.{total, segment_offset};
 ghost use Rattle.area_rules.specs.Blocks.{region_lengths, region_index, region_length, region_offset};
@@ -70,6 +72,7 @@ fn region_in_prefix(l: AreaLayout, region: Region) -> Span
 }
 
 // The span of a region of a line's prefix in an accepted file.
+#[tactic(auto, unfolding(area_part_rules::specs::Regions::region_rules, refusal_rules::specs::Rules::chained, area_part_rules::specs::Regions::region_of))]
 fn region_of(l: AreaLayout, line: u32, region: Region) -> SpanAnswer
     requires { AreaFits l }
     ensures { span_says result ≡ region_of l line region }

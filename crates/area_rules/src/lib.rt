@@ -1,5 +1,7 @@
 // AREA files, images: the opening checks as a table, when a file is accepted, its layout, where its samples, blocks and prefix regions are, and its band
 // map. There is no code here: see specs/ and proofs/.
+#![tactic(auto)]
+
 use endian_rules::Order;
 use refusal_rules::Refusal;
 
@@ -9,7 +11,7 @@ use refusal_rules::Refusal;
 // (W51) in a line prefix, those of the padding behind them, which fill the prefix up to a multiple of four, the starts of AUX (W60) and CAL (W63), the
 // comment cards (W64), and whether W36 is 0, where lines have no validity code. A start of 0 means that there is no such block. "Layout" is document 01's
 // term.
-#[derive(Drop)]
+#[derive(Clone, Copy)]
 pub struct AreaLayout {
     pub order: Order,
     pub length: usize,
@@ -33,14 +35,14 @@ pub struct AreaLayout {
 }
 
 // What opening an AREA file answers: its layout, or a refusal.
-#[derive(Drop)]
+#[derive(Clone, Copy)]
 pub enum AreaOpening {
     Opened(AreaLayout),
     Refused(Refusal),
 }
 
 // The blocks of an AREA file: the directory, navigation, calibration, the supplemental block, the image lines, and the comment cards.
-#[derive(Drop)]
+#[derive(Clone, Copy)]
 pub enum Block {
     Dir,
     Nav,
@@ -52,7 +54,7 @@ pub enum Block {
 
 // The regions of a line prefix, in their order. The padding fills the prefix up to a multiple of four. "Region" is document 01's term for each of these stretches of
 // a prefix, and "padding" document 02's.
-#[derive(Drop)]
+#[derive(Clone, Copy)]
 pub enum Region {
     Validity,
     Documentation,
@@ -62,7 +64,7 @@ pub enum Region {
 }
 
 // Which sample of an element is meant: the one at a slot, counted from 0, or that of a band, counted from 1, which stands for its slot.
-#[derive(Drop)]
+#[derive(Clone, Copy)]
 pub enum SlotOrBand {
     Slot(u32),
     Band(u32),

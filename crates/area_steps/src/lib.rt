@@ -1,4 +1,6 @@
 // The bytes of a line of an AREA file, for functions that know the bounds of the counts.
+#![tactic(auto)]
+
 ghost use Rattle.std.specs.Prelude.{◌≡◌, ◌≤◌};
 ghost use Rattle.area_rules.specs.Lines.{line_length};
 

@@ -1,4 +1,6 @@
 // The band map of an AREA file: the slot at which a band lies within each element.
+#![tactic(auto)]
+
 ghost use Rattle.std.specs.Prelude.{◌≡◌, ◌<◌, ◌≤◌};
 ghost use Rattle.refusal_rules.specs.Answers.{number_says};
 ghost use Rattle.area_rules.specs.Bands.{second_map, map_bit, set_below, has_band, band_slot, slot_of};
@@ -15,6 +17,7 @@ pub fn second_map(bands: u32, map2: u32) -> u32
 }
 
 // Bit i of the band map, that of band i + 1. The second word is given as it counts.
+#[tactic(auto, unfolding(area_rules::specs::Bands::map_bit))]
 fn map_bit(map: u32, map2: u32, i: u32) -> u32
     requires { i < 64 }
     ensures { result ≡ map_bit map map2 i }
@@ -27,6 +30,7 @@ fn map_bit(map: u32, map2: u32, i: u32) -> u32
 }
 
 // How many of the bits below bit n are set.
+#[tactic(auto, unfolding(area_rules::specs::Bands::set_below))]
 fn set_below(map: u32, map2: u32, n: u32) -> u32
     requires { n ≤ 64 }
     ensures { result ≡ set_below map map2 n }
@@ -53,6 +57,7 @@ fn has_band(map: u32, map2: u32, band: u32) -> bool
 
 // The slot of a band in a map of `bands` bands, of which the second word counts only where there are more than 32. Refused with 4 at 19 where the map has not that many
 // set bits, and with 7 where it has no such band.
+#[tactic(auto, unfolding(area_rules::specs::Bands::band_rules, refusal_rules::specs::Rules::chained, area_rules::specs::Bands::band_slot))]
 fn slot_of_band(map: u32, map2: u32, bands: u32, band: u32) -> NumberAnswer
     ensures { number_says result ≡ band_slot map map2 bands band }
 {
@@ -67,6 +72,7 @@ fn slot_of_band(map: u32, map2: u32, bands: u32, band: u32) -> NumberAnswer
 
 // The slot that a slot or band of a layout means. Refused with 4 at 19 where a band is named and the band map is unusable, and with 7 where there is no such
 // slot or band.
+#[tactic(auto, unfolding(refusal_rules::specs::Rules::chained))]
 pub fn slot_of(layout: AreaLayout, which: SlotOrBand) -> NumberAnswer
     ensures { number_says result ≡ slot_of layout which }
 {

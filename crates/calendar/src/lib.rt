@@ -1,4 +1,6 @@
 // Dates and times of day, as file headers have them: what a date word and a time word answer.
+#![tactic(auto)]
+
 ghost use Rattle.std.specs.Prelude.{◌≡◌, ◌<◌, ◌≤◌, pos};
 ghost use Rattle.calendar_rules.specs.Gregorian.{leap, days_before, year_length, month_of, date_in};
 ghost use Rattle.calendar_rules.specs.Dates.{date_says, date_of};
@@ -27,6 +29,7 @@ fn days_before(leap: bool, month: usize) -> u32
 }
 
 // Whether a year is a leap year.
+#[tactic(auto, unfolding(calendar_rules::specs::Gregorian::leap))]
 fn is_leap(year: u32) -> bool
     ensures { result ≡ leap year }
 {
@@ -34,6 +37,7 @@ fn is_leap(year: u32) -> bool
 }
 
 // The days of a year.
+#[tactic(auto, unfolding(calendar_rules::specs::Gregorian::days_before))]
 fn year_length(leap: bool) -> u32
     ensures { result ≡ year_length leap }
 {
@@ -41,6 +45,7 @@ fn year_length(leap: bool) -> u32
 }
 
 // The month, counted from 0, in which a day of the year lies: the last that begins before the day ends.
+#[tactic(auto, unfolding(calendar_rules::specs::Gregorian::last_before))]
 fn month_of(leap: bool, day: u32) -> usize
     ensures { result ≡ month_of leap day }
 {
@@ -55,6 +60,7 @@ fn month_of(leap: bool, day: u32) -> usize
 }
 
 // The date of a day of a year.
+#[tactic(auto, unfolding(calendar_rules::specs::Gregorian::date_in))]
 fn date_in(year: u32, day: u32) -> Date
     requires { 1 ≤ day }
     ensures { result ≡ date_in year day }
@@ -69,6 +75,7 @@ fn date_in(year: u32, day: u32) -> Date
 }
 
 // The date of a word that is not negative, or refusal 11.
+#[tactic(auto, unfolding(calendar_rules::specs::Dates::date_rules, refusal_rules::specs::Rules::chained, refusal_rules::specs::Rules::first, calendar_rules::specs::Dates::date_of))]
 fn date_of_number(n: u32) -> DateAnswer
     ensures { date_says result ≡ date_of (pos n) }
 {
@@ -84,6 +91,7 @@ fn date_of_number(n: u32) -> DateAnswer
 
 // The date of a word yyyddd: 1000 times the years since 1900, and the day of the year. Refused with 11 where the word is
 // negative or above 999,999, or its day is not one of that year.
+#[tactic(auto, unfolding(calendar_rules::specs::Dates::date_of, calendar_rules::specs::Dates::date_rules, refusal_rules::specs::Rules::first_fault, refusal_rules::specs::Rules::first, refusal_rules::specs::Rules::judge))]
 pub fn date_of(word: i32) -> DateAnswer
     ensures { date_says result ≡ date_of word }
 {
@@ -97,6 +105,7 @@ pub fn date_of(word: i32) -> DateAnswer
 }
 
 // The time of day of a word that is not negative, or refusal 11.
+#[tactic(auto, unfolding(calendar_rules::specs::Times::time_rules, refusal_rules::specs::Rules::chained, refusal_rules::specs::Rules::first, calendar_rules::specs::Times::time_of))]
 fn time_of_number(n: u32) -> TimeAnswer
     ensures { time_says result ≡ time_of (pos n) }
 {
@@ -117,6 +126,7 @@ fn time_of_number(n: u32) -> TimeAnswer
 
 // The time of day of a word hhmmss. Refused with 11 where the word is negative, its hours are above 23, or its minutes or
 // seconds above 59.
+#[tactic(auto, unfolding(calendar_rules::specs::Times::time_of, calendar_rules::specs::Times::time_rules, refusal_rules::specs::Rules::first_fault, refusal_rules::specs::Rules::first, refusal_rules::specs::Rules::judge))]
 pub fn time_of(word: i32) -> TimeAnswer
     ensures { time_says result ≡ time_of word }
 {

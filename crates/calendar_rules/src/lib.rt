@@ -1,8 +1,10 @@
 // Dates and times of day, as file headers have them. There is no code here: see specs/ and proofs/.
+#![tactic(auto)]
+
 use refusal_rules::Refusal;
 
 // A date of the Gregorian calendar. Months and days are counted from 1.
-#[derive(Drop)]
+#[derive(Clone, Copy)]
 pub struct Date {
     pub year: u32,
     pub month: u32,
@@ -10,14 +12,14 @@ pub struct Date {
 }
 
 // What a date word answers: its date, or a refusal.
-#[derive(Drop)]
+#[derive(Clone, Copy)]
 pub enum DateAnswer {
     On(Date),
     Refused(Refusal),
 }
 
 // A time of day.
-#[derive(Drop)]
+#[derive(Clone, Copy)]
 pub struct TimeOfDay {
     pub hours: u32,
     pub minutes: u32,
@@ -25,7 +27,7 @@ pub struct TimeOfDay {
 }
 
 // What a time word answers: its time of day, or a refusal.
-#[derive(Drop)]
+#[derive(Clone, Copy)]
 pub enum TimeAnswer {
     At(TimeOfDay),
     Refused(Refusal),

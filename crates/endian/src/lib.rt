@@ -1,5 +1,6 @@
 // Signed words and byte orders: a word's 32 bits as a signed and as an unsigned number, a bound on a signed word, and a number for each byte order.
 #![tactic(auto)]
+
 ghost use Rattle.std.specs.Prelude.{◌≡◌};
 ghost use Rattle.std.specs.Int.{w32};
 ghost use Rattle.std.proofs.Common.{to_z, of_z};

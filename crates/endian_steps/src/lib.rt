@@ -2,6 +2,8 @@
 //
 // A number is the sum of its bytes, each times its power of 256. That the code reads it in either order and at every width rests on this one fact,
 // `number-sum` of endian_rules/proofs/Places.antt.
+#![tactic(auto)]
+
 ghost use Rattle.std.specs.Prelude.{◌≡◌, ◌+◌, ◌<◌, ◌^◌, ◌≤◌, ◌*◌, length, get_or};
 ghost use Rattle.std.proofs.lemmas.List.Edits.{sets};
 ghost use Rattle.endian_rules.specs.Numbers.{ordered, position, number_at, encode};
@@ -12,6 +14,7 @@ use endian::{signed, unsigned};
 use endian_rules::Order;
 
 // The unsigned number of `width` bytes, at most four, at the byte `at`. The caller must make sure that the bytes are inside the file.
+#[tactic(auto, unfolding(endian_rules::proofs::Numbers::sum_of_powers))]
 pub fn read_number(order: Order, width: usize, file: &[u8], at: usize) -> u32
     requires { (width ≤ 4) × (at + width ≤ length file.now) }
     ensures { result ≡ number_at order width file.now at }
@@ -64,6 +67,7 @@ pub fn read_signed(order: Order, file: &[u8], at: usize) -> i32
 
 // The raw word k, counted from 0: the unsigned number that its 32 bits are. The caller must make sure that its four bytes are inside the
 // file.
+#[tactic(auto, unfolding(endian_rules::specs::Words::word_at))]
 pub fn read_word(order: Order, file: &[u8], k: usize) -> u32
     requires { 4 * k + 4 ≤ length file.now }
     ensures { result ≡ word_at order file.now k }

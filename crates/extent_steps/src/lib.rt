@@ -1,5 +1,7 @@
 // The free stretches of a GRID file: the longest runs of words that no grid has. They are found one after another, each from the end of the one before, by
 // looking at every slot. The callers must make sure that the file is accepted.
+#![tactic(auto)]
+
 ghost use Rattle.std.specs.Prelude.{◌≡◌, ◌<◌, ◌/◌, ◌≤◌, ◌+◌, length};
 ghost use Rattle.endian_rules.specs.Words.{word_at};
 ghost use Rattle.extent_rules.specs.Stretches.{slot_extent, highest_end, first_word, lowest_free, extent_end};
@@ -13,6 +15,7 @@ use grid_rules::EMPTY_SLOT;
 use refusal::and;
 
 // The words of slot k's grid; no words where the slot is empty. The directory must be inside the file, and each grid.
+#[tactic(auto, unfolding(extent_rules::specs::Stretches::slot_extent))]
 fn slot_extent(file: &[u8], order: Order, k: usize) -> Extent
     requires { SlotsInside (length file.now) (word_at order file.now) × (k < word_at order file.now 10) }
     ensures { result ≡ slot_extent (word_at order file.now) k }
@@ -34,6 +37,7 @@ fn slot_extent(file: &[u8], order: Order, k: usize) -> Extent
 
 // The end of the highest grid of a file, or 12 + n where there is none: what its next free word is after a grid was deleted or added. The caller must make
 // sure that the directory is inside the file, and each grid.
+#[tactic(auto, unfolding(extent_rules::specs::Stretches::highest_end))]
 pub fn highest_end(file: &[u8], order: Order) -> usize
     requires { SlotsInside (length file.now) (word_at order file.now) }
     ensures { result ≡ highest_end (word_at order file.now) (first_word (word_at order file.now)) (word_at order file.now 10) }
@@ -53,6 +57,7 @@ pub fn highest_end(file: &[u8], order: Order) -> usize
 }
 
 // The end of the grid that has word p; p where none has it.
+#[tactic(auto, unfolding(extent_rules::specs::Steps::past_grid))]
 fn past_grid(file: &[u8], order: Order, p: usize) -> usize
     requires { SlotsInside (length file.now) (word_at order file.now) }
     ensures { result ≡ past_grid (word_at order file.now) p (word_at order file.now 10) }
@@ -72,6 +77,7 @@ fn past_grid(file: &[u8], order: Order, p: usize) -> usize
 }
 
 // The start of the next grid from word p on; `whole` where there is none.
+#[tactic(auto, unfolding(extent_rules::specs::Steps::next_grid))]
 fn next_grid(file: &[u8], order: Order, whole: usize, p: usize) -> usize
     requires { SlotsInside (length file.now) (word_at order file.now) }
     ensures { result ≡ next_grid (word_at order file.now) whole p (word_at order file.now 10) }
@@ -105,6 +111,7 @@ fn lowest_free(file: &[u8], order: Order, p: usize) -> usize
 }
 
 // The words before 12 + n, of a file that has them; no words of a shorter one. With this the free stretches are begun.
+#[tactic(auto, unfolding(extent_rules::specs::Steps::directory_extent))]
 pub fn directory_extent(file: &[u8], order: Order) -> Extent
     ensures { result ≡ directory_extent order file.now }
 {
@@ -136,6 +143,7 @@ pub fn run_after(file: &[u8], order: Order, e: Extent) -> Extent
 }
 
 // How many free stretches a file has, and the last of them; the directory where there is none. The caller must make sure that it is accepted.
+#[tactic(auto, unfolding(extent_rules::specs::Steps::survey))]
 pub fn survey_free(file: &[u8], order: Order) -> Survey
     requires { GridAccepted order file.now }
     ensures { result ≡ survey order file.now }
@@ -165,6 +173,7 @@ fn fits_extent(e: Extent, need: usize) -> bool
 }
 
 // What was found, if something was, else the extent if so many words fit into it and end by 2,147,483,647.
+#[tactic(auto, unfolding(extent_rules::specs::Rooms::first_fitting))]
 pub fn first_fitting(need: usize, found: Extent, e: Extent) -> Extent
     ensures { result ≡ first_fitting need found e }
 {

@@ -1,6 +1,8 @@
 // A lent table of the free stretches of a GRID file, each with its start and its length: it is filled from the file, and searched first fit.
 //
 // A table is a lent slice of structs, of which a proof is written out step by step. What is computed is computed by value, in extent_steps.
+#![tactic(auto)]
+
 ghost use Rattle.std.specs.Prelude.{◌≡◌, ◌≤◌, ◌<◌, length};
 ghost use Rattle.extent_rules.specs.Steps.{GridAccepted, runs_over, searched_over};
 ghost use Rattle.extent_rules.specs.Rooms.{searched, lesser};
@@ -11,6 +13,7 @@ use extent_steps::{directory_extent, first_fitting, run_after};
 
 // Fills the first places of a table with the first free stretches of a file, in address order; places past them stay. The caller must make sure that the table
 // has so many places, and that the file is accepted unless there are none to fill.
+#[tactic(auto, unfolding(extent_rules::specs::Steps::nth_run, lists::specs::Lists::list_of))]
 pub fn fill<'t, 'f>(table: &'t mut [Extent], file: &'f [u8], order: Order, count: usize)
     requires { (count ≤ length table.old) × (0 < count → GridAccepted order file.now) }
     ensures { table.new ≡ runs_over order file.now count table.old }
@@ -36,6 +39,7 @@ fn lesser(count: usize, size: usize) -> usize
 
 // The first of a table's first `count` extents into which `need` words fit so that they end by 2,147,483,647; no words where there is none. All are searched where
 // the table has fewer.
+#[tactic(auto, unfolding(extent_rules::specs::Rooms::searched))]
 pub fn first_fit(table: &[Extent], count: usize, need: usize) -> Extent
     ensures { result ≡ searched table.now need (lesser count (length table.now)) }
 {

@@ -1,4 +1,6 @@
 // The layout of one kind that a call asks for: what every call with a file and a layout does first.
+#![tactic(auto)]
+
 ghost use Rattle.std.specs.Prelude.{◌≡◌};
 ghost use Rattle.area_rules.specs.Opening.{area_says};
 ghost use Rattle.grid_rules.specs.Opening.{grid_says};

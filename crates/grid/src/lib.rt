@@ -1,4 +1,6 @@
 // GRID files, gridded fields: opening a grid, each slot's grid compared with all earlier ones, and comparing layouts.
+#![tactic(auto)]
+
 ghost use Rattle.std.specs.Prelude.{◌≡◌, ◌<◌, length};
 ghost use Rattle.endian_rules.specs.Words.{word_at};
 ghost use Rattle.refusal_rules.specs.Rules.{first_fault};
@@ -15,6 +17,7 @@ use refusal::{and, check, equal_and};
 use refusal_rules::{MISPLACED, Verdict};
 
 // Whether two GRID layouts are the same in every field. What has been compared up to a field is named after it.
+#[tactic(auto, unfolding(grid_rules::specs::Opening::same_grid, refusal_rules::specs::Tests::same_numbers))]
 pub fn same_grid(a: GridLayout, b: GridLayout) -> bool
     ensures { result ≡ same_grid a b }
 {
@@ -29,6 +32,7 @@ pub fn same_grid(a: GridLayout, b: GridLayout) -> bool
 }
 
 // Whether one of the first k slots has a word from `low` up to `high`. Their checks must have passed.
+#[tactic(auto, unfolding(grid_rules::specs::Rules::shares))]
 fn shares_word(
     file: &[u8],
     order: Order,
@@ -52,6 +56,7 @@ fn shares_word(
 }
 
 // What the checks of slot k say. Those of the slots before it must have passed.
+#[tactic(auto, unfolding(refusal_rules::specs::Rules::first_fault, refusal_rules::specs::Rules::first, grid_rules::specs::Rules::overlap_rule))]
 fn slot_verdict(file: &[u8], order: Order, n: usize, next: usize, k: usize) -> Verdict
     requires { GridRoom (length file.now) n next × ((k < n) × (first_fault (slots_rules (word_at order file.now) n next k) ≡ Verdict.Pass)) }
     ensures { result ≡ first_fault (slot_rules (word_at order file.now) n next k) }
@@ -72,6 +77,7 @@ fn slot_verdict(file: &[u8], order: Order, n: usize, next: usize, k: usize) -> V
 }
 
 // What the checks of all n slots say, slot by slot.
+#[tactic(auto, unfolding(grid_rules::specs::Rules::slots_rules, refusal_rules::specs::Rules::first_fault))]
 fn slots_verdict(file: &[u8], order: Order, n: usize, next: usize) -> Verdict
     requires { GridRoom (length file.now) n next }
     ensures { result ≡ first_fault (slots_rules (word_at order file.now) n next n) }
@@ -91,6 +97,7 @@ fn slots_verdict(file: &[u8], order: Order, n: usize, next: usize) -> Verdict
 
 // What the checks of a whole GRID file say, before a grid of it is asked for: 1 to 5 with document 01's places. The first fault of the lowest
 // slot that has one comes first.
+#[tactic(auto, unfolding(refusal_rules::specs::Rules::first))]
 pub fn file_verdict(file: &[u8], order: Order) -> Verdict
     ensures { result ≡ first_fault (grid_file_rules (length file.now) (word_at order file.now)) }
 {
@@ -106,6 +113,7 @@ pub fn file_verdict(file: &[u8], order: Order) -> Verdict
 
 // Opens the grid of a number, counted from 1, in a byte order. Refused by the first fault of the whole file, then with 7 where there is no such
 // grid, then with 6 where its slot is empty.
+#[tactic(auto, unfolding(grid_rules::specs::Opening::open_grid))]
 pub fn open(file: &[u8], order: Order, number: u32) -> GridOpening
     ensures { grid_says result ≡ open_grid order file.now number }
 {

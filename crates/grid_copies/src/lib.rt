@@ -1,4 +1,6 @@
 // The header of a grid handed back, and a whole grid copied by columns or by rows into a lent output.
+#![tactic(auto)]
+
 ghost use Rattle.std.specs.Prelude.{◌≡◌};
 ghost use Rattle.refusal_rules.specs.Answers.{gives, size_says};
 ghost use Rattle.copy_rules.specs.Runs.{copied};

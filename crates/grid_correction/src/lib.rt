@@ -1,4 +1,6 @@
 // An example of use: points of a grid are corrected in place.
+#![tactic(auto)]
+
 ghost use Rattle.std.specs.Prelude.{◌≡◌};
 ghost use Rattle.refusal_rules.specs.Answers.{word_says};
 ghost use Rattle.grid_correction.specs.Corrections.{correct_point, two_say, correct_two};
@@ -12,7 +14,7 @@ use store_rules::StoreAnswer;
 use stores::store_point;
 
 // A correction of a grid: a row, a column and the value that the point should have.
-#[derive(Drop)]
+#[derive(Clone, Copy)]
 pub struct Correction {
     pub row: u32,
     pub column: u32,
@@ -20,7 +22,7 @@ pub struct Correction {
 }
 
 // What two stores answer.
-#[derive(Drop)]
+#[derive(Clone, Copy)]
 pub struct TwoAnswers {
     pub first: StoreAnswer,
     pub second: StoreAnswer,

@@ -1,5 +1,7 @@
 // Where the points of a grid lie, by a layout alone. A layout may be one that a caller has made up: where a field of it is above the bounds that opening sets,
 // there is no such point, and nothing is computed from it.
+#![tactic(auto)]
+
 ghost use Rattle.std.specs.Prelude.{◌≡◌};
 ghost use Rattle.refusal_rules.specs.Rules.{first_fault};
 ghost use Rattle.refusal_rules.specs.Answers.{place_says};
@@ -12,6 +14,7 @@ use refusal::{and, check, within};
 use refusal_rules::{NO_SUCH, Place, PlaceAnswer, Verdict};
 
 // What the rules of a point of a row and a column say: 7 where there is no such row or column.
+#[tactic(auto, unfolding(grid_rules::specs::Places::point_rules, grid_rules::specs::Bounds::grid_bounded, refusal_rules::specs::Rules::chained))]
 fn point_verdict(layout: GridLayout, row: u32, column: u32) -> Verdict
     ensures { result ≡ first_fault (point_rules layout row column) }
 {
@@ -32,6 +35,7 @@ fn point_word(layout: GridLayout, row: u32, column: u32) -> usize
 
 // The place of a point of a grid, named by row and column, both counted from 1. Refused with 7 where there is no such row or column, or the layout is above
 // the bounds that opening sets.
+#[tactic(auto, unfolding(grid_rules::specs::Places::point_place))]
 pub fn point_place(layout: GridLayout, row: u32, column: u32) -> PlaceAnswer
     ensures { place_says result ≡ point_place layout row column }
 {

@@ -1,11 +1,13 @@
 // GRID files, gridded fields: the opening checks slot by slot, when a file is accepted, the layout of a grid, and where its header words and points are.
 // There is no code here: see specs/ and proofs/.
+#![tactic(auto)]
+
 use endian_rules::Order;
 use refusal_rules::Refusal;
 
 // What opening a grid finds: the byte order in which the file was opened and its length in bytes, the number of the grid; and as raw words
 // its offset, in words, and its rows and columns. "Layout" is document 01's term.
-#[derive(Drop)]
+#[derive(Clone, Copy)]
 pub struct GridLayout {
     pub order: Order,
     pub length: usize,
@@ -19,7 +21,7 @@ pub struct GridLayout {
 pub const EMPTY_SLOT: u32 = 4294967295;
 
 // What opening a grid answers: its layout, or a refusal.
-#[derive(Drop)]
+#[derive(Clone, Copy)]
 pub enum GridOpening {
     Opened(GridLayout),
     Refused(Refusal),

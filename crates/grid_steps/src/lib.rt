@@ -1,5 +1,7 @@
 // The opening checks of a GRID file, slot by slot: what every way of opening such a file applies, whichever way it finds grids that overlap.
 // Functions that look at one slot ask of their caller that the checks before it have passed.
+#![tactic(auto)]
+
 ghost use Rattle.std.specs.Prelude.{◌≡◌, ◌+◌, ◌*◌, ◌≤◌, ◌<◌, length};
 ghost use Rattle.endian_rules.specs.Words.{word_at};
 ghost use Rattle.refusal_rules.specs.Rules.{first_fault, rule, judge, first};
@@ -19,6 +21,7 @@ use refusal_rules::{
 
 // What the checks before the slots say: 1 where the file is shorter than 44 bytes, 3 at 10 for the number of grids, 5 at 10 where the
 // directory has no room, 5 at 11 + n for the next free word.
+#[tactic(auto, unfolding(grid_rules::specs::Rules::grid_head_rules, refusal_rules::specs::Rules::chained, refusal_rules::specs::Rules::first, refusal_rules::specs::Rules::first_fault, refusal_rules::specs::Rules::judge))]
 pub fn head_verdict(file: &[u8], order: Order) -> Verdict
     ensures { result ≡ first_fault (grid_head_rules (length file.now) (word_at order file.now)) }
 {
@@ -51,6 +54,7 @@ fn count(verdict: Verdict, n: u32, place: usize) -> Verdict
 }
 
 // What the header at an offset says: rows, columns, size and end. The caller must make sure that the 64 words of the header are inside the file.
+#[tactic(auto, unfolding(grid_rules::specs::Rules::size_rules, refusal_rules::specs::Rules::chained))]
 fn size_verdict(file: &[u8], order: Order, next: usize, k: usize, offset: usize) -> Verdict
     requires { (4 * next ≤ length file.now) × ((next < 2147483648) × ((k < 1024) × (offset + 64 ≤ next))) }
     ensures { result ≡ first_fault (size_rules (word_at order file.now) next k offset) }
@@ -68,6 +72,7 @@ fn size_verdict(file: &[u8], order: Order, next: usize, k: usize, offset: usize)
 
 // What the checks of slot k's grid say that look at no other slot. The slot is one that is not empty; an empty one is a fault of its offset. n and
 // `next` are the number of grids and the next free word. The caller must make sure that the checks before the slots have passed.
+#[tactic(auto, unfolding(grid_rules::specs::Rules::header_rules, refusal_rules::specs::Rules::chained, grid_rules::specs::Rules::own_rules, refusal_rules::specs::Rules::first))]
 pub fn own_verdict(file: &[u8], order: Order, n: usize, next: usize, k: usize) -> Verdict
     requires { GridRoom (length file.now) n next × (k < n) }
     ensures { result ≡ first_fault (own_rules (word_at order file.now) n next k) }
@@ -83,6 +88,7 @@ pub fn own_verdict(file: &[u8], order: Order, n: usize, next: usize, k: usize) -
 
 // Whether the grid of slot j has a word from `low` up to `high`; an empty slot has none. The caller must make sure that the checks of the slot
 // have passed.
+#[tactic(auto, unfolding(grid_rules::specs::Rules::meets))]
 pub fn meets_slot(
     file: &[u8],
     order: Order,
@@ -106,6 +112,7 @@ pub fn meets_slot(
 
 // Opens a grid of a file whose checks have passed, which the caller must make sure of. Refused with 7 for a grid number that the file does not
 // have, and with 6 for an empty slot.
+#[tactic(auto, unfolding(grid_rules::specs::Opening::open_wanted, grid_rules::specs::Rules::wanted_rules, refusal_rules::specs::Rules::first_fault, refusal_rules::specs::Rules::judge, refusal_rules::specs::Rules::first, grid_rules::specs::Opening::grid_layout_of))]
 pub fn open_wanted(file: &[u8], order: Order, number: u32) -> GridOpening
     requires { first_fault (grid_file_rules (length file.now) (word_at order file.now)) ≡ Verdict.Pass }
     ensures { grid_says result ≡ open_wanted order (length file.now) (word_at order file.now) number }

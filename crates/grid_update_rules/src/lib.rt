@@ -1,10 +1,12 @@
 // What deleting and adding a grid answer and leave, and the free stretches of a file: document 02, request 5. There is no code here: see specs/ and proofs/. The
 // calls are `grid_updates::delete`, `grid_updates::add` and `grid_updates::free_stretches`.
+#![tactic(auto)]
+
 use extent_rules::Extent;
 use refusal_rules::{Refusal, SizeAnswer, Verdict};
 
 // A grid that was added: its number, which is that of its slot, counted from 1; the word at which it begins; and how many free stretches the file has now.
-#[derive(Drop)]
+#[derive(Clone, Copy)]
 pub struct Added {
     pub number: u32,
     pub address: usize,
@@ -12,14 +14,14 @@ pub struct Added {
 }
 
 // What adding a grid answers: the grid that was added, or a refusal.
-#[derive(Drop)]
+#[derive(Clone, Copy)]
 pub enum AddAnswer {
     Done(Added),
     Refused(Refusal),
 }
 
 // What deleting a grid, or telling the free stretches, leaves to be done: what is answered, and how many places of the table are to be filled.
-#[derive(Drop)]
+#[derive(Clone, Copy)]
 pub struct StretchStep {
     pub answer: SizeAnswer,
     pub count: usize,
@@ -28,7 +30,7 @@ pub struct StretchStep {
 // The plan of an addition: what its rules say; and where they pass the number of its slot, counted from 1, how many words the grid needs, how many free
 // stretches the file has before the last, and the last. Only those before the last are put into the table to be searched: an addition may leave one stretch
 // fewer, and then the place of the last stays as it was.
-#[derive(Drop)]
+#[derive(Clone, Copy)]
 pub struct AddPlan {
     pub verdict: Verdict,
     pub number: u32,
@@ -38,7 +40,7 @@ pub struct AddPlan {
 }
 
 // What adding a grid leaves to be done: what is answered, and how many places of the table are to be filled.
-#[derive(Drop)]
+#[derive(Clone, Copy)]
 pub struct AdditionStep {
     pub answer: AddAnswer,
     pub count: usize,

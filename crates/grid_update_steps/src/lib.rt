@@ -1,4 +1,6 @@
 // Deleting and adding a grid, as far as the file goes. What a table of free stretches asks is answered beside: how many of its places are to be filled.
+#![tactic(auto)]
+
 ghost use Rattle.std.specs.Prelude.{◌≡◌, map, ◌<◌, ◌+◌, ◌≤◌, ◌*◌, length};
 ghost use Rattle.std.proofs.lemmas.List.Edits.{sets};
 ghost use Rattle.std.specs.Int.{w32};
@@ -26,6 +28,7 @@ use refusal_rules::{
 
 // Sets the next free word to the end of the highest grid, or to 12 + n where there is none. The directory must be inside the file, and each grid, and the end must
 // be a signed word.
+#[tactic(auto, unfolding(grid_update_rules::specs::Updates::next_free_set, grid_update_rules::specs::Updates::set_word))]
 fn set_next_free(file: &mut [u8], order: Order)
     requires { SlotsInside (length file.old) (word_at order file.old) × (highest_end (word_at order file.old) (first_word (word_at order file.old)) (word_at order file.old 10) < 2147483648) }
     ensures { file.new ≡ next_free_set order file.old }
@@ -36,6 +39,7 @@ fn set_next_free(file: &mut [u8], order: Order)
 }
 
 // What the rules of deleting a grid say.
+#[tactic(auto, unfolding(refusal_rules::specs::Rules::chained))]
 fn delete_verdict(file: &[u8], order: Order, number: u32, size: usize) -> Verdict
     ensures { result ≡ first_fault (delete_rules order file.now number size) }
 {
@@ -56,6 +60,7 @@ fn delete_verdict(file: &[u8], order: Order, number: u32, size: usize) -> Verdic
 }
 
 // Deletes the grid of a number, with a table of `size` pairs. Refused as `grid_updates::delete`.
+#[tactic(auto, unfolding(grid_update_rules::specs::Updates::set_word, grid_update_rules::specs::Updates::without_grid, grid_update_rules::specs::Steps::delete_step))]
 pub fn delete_in(file: &mut [u8], order: Order, number: u32, size: usize) -> StretchStep
     ensures { (stretch_says result, file.new) ≡ delete_step order file.old number size }
 {
@@ -78,6 +83,7 @@ pub fn delete_in(file: &mut [u8], order: Order, number: u32, size: usize) -> Str
 }
 
 // The lowest-numbered empty slot, counted from 0; n where there is none.
+#[tactic(auto, unfolding(grid_update_rules::specs::Updates::lowest_empty))]
 fn lowest_empty(file: &[u8], order: Order) -> usize
     requires { GridAccepted order file.now }
     ensures { result ≡ lowest_empty (word_at order file.now) }
@@ -94,6 +100,7 @@ fn lowest_empty(file: &[u8], order: Order) -> usize
 }
 
 // What the rules of adding a grid say, of a file whose own checks have passed, for so many header bytes and values.
+#[tactic(auto, unfolding(refusal_rules::specs::Rules::chained))]
 fn add_verdict(
     file: &[u8],
     order: Order,
@@ -136,6 +143,7 @@ fn refused_plan(refusal: Refusal) -> AddPlan
 }
 
 // Plans the addition of a grid, for so many header bytes and values, with a table of `size` pairs. Its verdict refuses as `grid_updates::add`.
+#[tactic(auto, unfolding(extent_rules::specs::Steps::survey))]
 pub fn plan_add(
     file: &[u8],
     order: Order,
@@ -183,6 +191,7 @@ fn write_bytes(file: &mut [u8], at: usize, bytes: &[u8])
 }
 
 // Writes signed words, one after another, from the byte `at` of a file on. They must be inside it.
+#[tactic(auto, unfolding(endian_rules::specs::Files::bytes_of))]
 fn write_values(file: &mut [u8], order: Order, at: usize, values: &[i32])
     requires { at + 4 * length values.now ≤ length file.old }
     ensures { file.new ≡ sets file.old at (bytes_of order (map (of_z w32) values.now)) }
@@ -220,6 +229,7 @@ fn write_grid(
 // Carries out the plan of an addition, where `found` was found among the free stretches before the last. The caller must make sure that the plan is the one for
 // this file, and that what was found, or else the last stretch, begins at the lowest address at which the grid has room. Nothing is written where the plan
 // refuses.
+#[tactic(auto, unfolding(grid_update_rules::specs::Updates::with_grid, grid_update_rules::specs::Updates::grid_put, grid_update_rules::specs::Steps::add_step))]
 pub fn add_at(
     file: &mut [u8],
     order: Order,

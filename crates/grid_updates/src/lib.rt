@@ -1,5 +1,7 @@
 // The free stretches of a file, the longest runs of words that no grid has; deleting a grid and adding one, with the room of deleted grids used again. The calls
 // take the file and its byte order, and no layout; after each, a lent table holds the free stretches of the file in address order.
+#![tactic(auto)]
+
 ghost use Rattle.std.specs.Prelude.{◌≡◌};
 ghost use Rattle.refusal_rules.specs.Answers.{size_says};
 ghost use Rattle.grid_update_rules.specs.Steps.{stretch_says, tell_step};
@@ -17,6 +19,7 @@ use refusal::check;
 use refusal_rules::{SHORT_OUTPUT, SizeAnswer, Verdict};
 
 // Counts the free stretches of a file, for a table of `size` pairs. Refused as `free_stretches`.
+#[tactic(auto, unfolding(grid_update_rules::specs::Steps::tell_step))]
 fn count_stretches(file: &[u8], order: Order, size: usize) -> StretchStep
     ensures { stretch_says result ≡ tell_step order file.now size }
 {

@@ -1,5 +1,7 @@
 // The free stretches of a file, deleting a grid and adding one, for a caller that cannot lend a table: each call has a table of its own, or is given one by value,
 // lends it to `grid_updates::free_stretches`, `grid_updates::delete` or `grid_updates::add`, and hands it back by value, with the answer.
+#![tactic(auto)]
+
 ghost use Rattle.std.specs.Prelude.{◌≡◌, replicate};
 ghost use Rattle.refusal_rules.specs.Answers.{size_says};
 ghost use Rattle.extent_rules.specs.Stretches.{no_words};

@@ -1,4 +1,6 @@
 // A layout of any kind: opening a file by its kind, and whether a layout is stale.
+#![tactic(auto)]
+
 ghost use Rattle.std.specs.Prelude.{◌≡◌};
 ghost use Rattle.refusal_rules.specs.Answers.{mapped};
 ghost use Rattle.area_rules.specs.Opening.{open_area, area_says};
@@ -88,6 +90,7 @@ fn is_md(opening: MdOpening, layout: MdLayout) -> bool
 
 // Whether opening these bytes by the layout's own kind, byte order and grid number gives that very layout, in every field, the file's length
 // too. A layout of which this is false is stale. Nothing is computed from a layout's fields before this.
+#[tactic(auto, unfolding(layout_rules::specs::Layouts::is_fresh, layout_rules::specs::Layouts::open_as))]
 pub fn is_fresh(file: &[u8], layout: Layout) -> bool
     ensures { result ≡ is_fresh file.now layout }
 {

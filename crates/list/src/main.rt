@@ -1,4 +1,6 @@
 // The listing program of document 01: it reads an AREA file from standard input and writes its listing to standard output.
+#![tactic(auto)]
+
 use libc::STDIN_FILENO;
 use list_output::print_listing;
 

@@ -1,4 +1,6 @@
 // Listings of the files in `data/`, each under its name. What the program must write, in the file `stdout`, was worked out from document 01.
+#![tactic(auto)]
+
 use libc::STDOUT_FILENO;
 use list_output::print_listing;
 

@@ -1,4 +1,6 @@
 // The listing of an AREA file, written to standard output.
+#![tactic(auto)]
+
 ghost use Rattle.std.specs.Prelude.{◌≡◌, length};
 ghost use Rattle.listing_rules.specs.Page.{listing_text};
 

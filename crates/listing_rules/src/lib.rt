@@ -1,8 +1,10 @@
 // What the listing of an AREA file says: its blocks that are present, by start, and the text of it. There is no code here: see specs/ and proofs/.
+#![tactic(auto)]
+
 use area_rules::{AreaOpening, Block};
 
 // A block of a file: which one it is, where it starts, and how many bytes it has.
-#[derive(Drop)]
+#[derive(Clone, Copy)]
 pub struct Entry {
     pub block: Block,
     pub start: usize,

@@ -1,4 +1,6 @@
 // The text of the listing of an AREA file, in bytes, as the listing program prints it.
+#![tactic(auto)]
+
 ghost use Rattle.std.specs.Prelude.{◌≡◌, ◌≤◌, length, take, get_or};
 ghost use Rattle.lists.specs.Lists.{list_of};
 ghost use Rattle.refusal_rules.specs.Answers.{gives, size_says};
@@ -26,6 +28,7 @@ fn append_order(text: Text, order: Order) -> Text
 }
 
 // A text with the two lines of a layout behind it: the byte order, and the numbers.
+#[tactic(auto, unfolding(listing_rules::specs::Page::layout_lines))]
 fn append_layout(text: Text, layout: AreaLayout) -> Text
     ensures { result ≡ append_bytes text (layout_lines layout) }
 {
@@ -56,6 +59,7 @@ fn append_name(text: Text, block: Block) -> Text
 }
 
 // A text with the line of a block behind it: its name, start and length.
+#[tactic(auto, unfolding(listing_rules::specs::Page::block_line))]
 fn append_block(text: Text, entry: Entry) -> Text
     ensures { result ≡ append_bytes text (block_line entry) }
 {
@@ -84,6 +88,7 @@ fn append_blocks(text: Text, blocks: BlockList) -> Text
 // ---- the whole
 
 // The text of the listing of a file: the lines of the layout and of the blocks, the line of the refusal, or that the file is too long.
+#[tactic(auto, unfolding(listing_rules::specs::Steps::empty_text, listing_rules::specs::Page::refusal_line))]
 fn text_of(file: &[u8]) -> Text
     ensures { result ≡ append_bytes empty_text (listing_text file.now) }
 {
@@ -113,6 +118,7 @@ fn text_of(file: &[u8]) -> Text
 }
 
 // Fills an output with the first bytes of a text.
+#[tactic(auto, unfolding(lists::specs::Lists::list_of))]
 fn fill_text(text: Text, out: &mut [u8])
     requires { length out.old ≤ 512 }
     ensures { out.new ≡ list_of (λ i. get_or text.bytes i 0) (length out.old) }

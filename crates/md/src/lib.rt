@@ -1,4 +1,6 @@
 // MD files, point records: opening a file, and comparing layouts.
+#![tactic(auto)]
+
 ghost use Rattle.std.specs.Prelude.{◌≡◌, ◌+◌, ◌*◌, ◌≤◌, length};
 ghost use Rattle.endian_rules.specs.Words.{word_at};
 ghost use Rattle.refusal_rules.specs.Rules.{judge, first, first_fault};
@@ -31,6 +33,7 @@ fn equal(verdict: Verdict, file: &[u8], order: Order, k: usize, n: usize) -> Ver
 }
 
 // What the rules of the counts say. The verdict up to the rule of a word is named after it.
+#[tactic(auto, unfolding(md_rules::specs::Rules::md_count_rules, refusal_rules::specs::Rules::chained))]
 fn count_verdict(file: &[u8], order: Order) -> Verdict
     requires { 16384 ≤ length file.now }
     ensures { result ≡ first_fault (md_count_rules (word_at order file.now)) }
@@ -44,6 +47,7 @@ fn count_verdict(file: &[u8], order: Order) -> Verdict
 }
 
 // What the rules of the words that follow from the counts say, where the counts are within their bounds.
+#[tactic(auto, unfolding(md_rules::specs::Rules::md_sum_rules, refusal_rules::specs::Rules::chained))]
 fn sum_verdict(file: &[u8], order: Order) -> Verdict
     requires { (16384 ≤ length file.now) × (first_fault (md_count_rules (word_at order file.now)) ≡ Verdict.Pass) }
     ensures { result ≡ first_fault (md_sum_rules (word_at order file.now)) }
@@ -64,6 +68,7 @@ fn sum_verdict(file: &[u8], order: Order) -> Verdict
 }
 
 // What the rules of the words that are the same in every file say, after a verdict.
+#[tactic(auto, unfolding(md_rules::specs::Rules::md_fixed_rules, refusal_rules::specs::Rules::chained))]
 fn fixed_verdict(verdict: Verdict, file: &[u8], order: Order) -> Verdict
     requires { 16384 ≤ length file.now }
     ensures { result ≡ first verdict (first_fault (md_fixed_rules (word_at order file.now))) }
@@ -75,6 +80,7 @@ fn fixed_verdict(verdict: Verdict, file: &[u8], order: Order) -> Verdict
 }
 
 // What the rules of word 30 say, after a verdict, where the counts are within their bounds.
+#[tactic(auto, unfolding(md_rules::specs::Rules::md_end_rules, refusal_rules::specs::Rules::chained))]
 fn end_verdict(verdict: Verdict, file: &[u8], order: Order) -> Verdict
     requires { (16384 ≤ length file.now) × (first_fault (md_count_rules (word_at order file.now)) ≡ Verdict.Pass) }
     ensures { result ≡ first verdict (first_fault (md_end_rules (length file.now) (word_at order file.now))) }
@@ -91,6 +97,7 @@ fn end_verdict(verdict: Verdict, file: &[u8], order: Order) -> Verdict
 }
 
 // What all rules of opening say of a file that has at least 16,384 bytes.
+#[tactic(auto, unfolding(refusal_rules::specs::Rules::first))]
 fn md_verdict(file: &[u8], order: Order) -> Verdict
     requires { 16384 ≤ length file.now }
     ensures { result ≡ first_fault (md_rules (length file.now) (word_at order file.now)) }
@@ -106,6 +113,7 @@ fn md_verdict(file: &[u8], order: Order) -> Verdict
 }
 
 // The layout that the words of a file give.
+#[tactic(auto, unfolding(md_rules::specs::Opening::md_layout_of))]
 fn layout_of_words(file: &[u8], order: Order) -> MdLayout
     requires { 16384 ≤ length file.now }
     ensures { result ≡ md_layout_of order (length file.now) (word_at order file.now) }
@@ -126,6 +134,7 @@ fn layout_of_words(file: &[u8], order: Order) -> MdLayout
 
 // Opens an MD file in a byte order. Refused, with document 01's number and place, by the first of its rules that fails: 1 where the file is shorter
 // than 16,384 bytes, 3 at a count outside its bounds, 4 at a word unequal to its rule, 5 at 30 where word 30 only passes the file's end.
+#[tactic(auto, unfolding(md_rules::specs::Opening::open_md, md_rules::specs::Opening::open_md_words, md_rules::specs::Rules::md_rules, refusal_rules::specs::Rules::first_fault, refusal_rules::specs::Rules::first, refusal_rules::specs::Rules::judge))]
 pub fn open(file: &[u8], order: Order) -> MdOpening
     ensures { md_says result ≡ open_md order file.now }
 {
@@ -142,6 +151,7 @@ pub fn open(file: &[u8], order: Order) -> MdOpening
 }
 
 // Whether two MD layouts are the same in every field. What has been compared up to a field is named after it.
+#[tactic(auto, unfolding(md_rules::specs::Opening::same_md, refusal_rules::specs::Tests::same_numbers))]
 pub fn same_md(a: MdLayout, b: MdLayout) -> bool
     ensures { result ≡ same_md a b }
 {

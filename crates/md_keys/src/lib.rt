@@ -1,4 +1,6 @@
 // The keys of an MD file: the position of a key by its name.
+#![tactic(auto)]
+
 ghost use Rattle.std.specs.Prelude.{◌≡◌, ◌≤◌, length};
 ghost use Rattle.refusal_rules.specs.Answers.{number_says};
 ghost use Rattle.md_rules.specs.Accepts.{MdOf};

@@ -1,5 +1,7 @@
 // Where the parts and fields of an MD file lie, by a layout alone. A layout may be one that a caller has made up: where a field of it is above the bounds that
 // opening sets, there is no such part or field, and nothing is computed from it.
+#![tactic(auto)]
+
 ghost use Rattle.std.specs.Prelude.{◌≡◌, ◌≤◌};
 ghost use Rattle.refusal_rules.specs.Rules.{first_fault};
 ghost use Rattle.refusal_rules.specs.Answers.{size_says, place_says};
@@ -12,6 +14,7 @@ use refusal::{and, check, within};
 use refusal_rules::{NO_SUCH, Place, PlaceAnswer, SizeAnswer, Verdict};
 
 // Whether the fields that MD addresses are computed from are within the bounds that opening sets.
+#[tactic(auto, unfolding(md_rules::specs::Bounds::md_bounded))]
 fn md_bounded(layout: MdLayout) -> bool
     ensures { result ≡ md_bounded layout }
 {
@@ -21,6 +24,7 @@ fn md_bounded(layout: MdLayout) -> bool
 }
 
 // The first word of the part of an MD file that coordinates name.
+#[tactic(auto, unfolding(md_rules::specs::Fields::field_word))]
 fn part_word(layout: MdLayout, row: u32, column: u32) -> usize
     requires { MdBounds layout × ((row ≤ layout.rows) × (column ≤ layout.columns)) }
     ensures { result ≡ part_word layout row column }
@@ -39,6 +43,7 @@ fn part_word(layout: MdLayout, row: u32, column: u32) -> usize
 }
 
 // What the rules of the part that coordinates name say: 7 where there is no such row or column.
+#[tactic(auto, unfolding(md_rules::specs::Places::part_rules, refusal_rules::specs::Rules::chained))]
 fn part_verdict(layout: MdLayout, row: u32, column: u32) -> Verdict
     ensures { result ≡ first_fault (part_rules layout row column) }
 {
@@ -49,6 +54,7 @@ fn part_verdict(layout: MdLayout, row: u32, column: u32) -> Verdict
 
 // The word at which the part of an MD file that coordinates name begins: the user record for (0, 0), a row header for (r, 0), a column header for
 // (0, c), data for (r, c). Refused with 7 where there is no such row or column, or the layout is above the bounds that opening sets.
+#[tactic(auto, unfolding(md_rules::specs::Places::part_start_of))]
 pub fn part_start(layout: MdLayout, row: u32, column: u32) -> SizeAnswer
     ensures { size_says result ≡ part_start_of layout row column }
 {
@@ -59,6 +65,7 @@ pub fn part_start(layout: MdLayout, row: u32, column: u32) -> SizeAnswer
 }
 
 // How many fields the part of an MD file has that coordinates name.
+#[tactic(auto, unfolding(md_rules::specs::Fields::fields_of))]
 fn fields_of(layout: MdLayout, row: u32, column: u32) -> u32
     ensures { result ≡ fields_of layout row column }
 {
@@ -74,6 +81,7 @@ fn fields_of(layout: MdLayout, row: u32, column: u32) -> u32
 }
 
 // What the rules of a field of the part that coordinates name say: 7 where there is no such row, column or field.
+#[tactic(auto, unfolding(md_rules::specs::Places::field_rules, refusal_rules::specs::Rules::chained))]
 fn field_verdict(layout: MdLayout, row: u32, column: u32, position: u32) -> Verdict
     ensures { result ≡ first_fault (field_rules layout row column position) }
 {
@@ -92,6 +100,7 @@ fn field_word(layout: MdLayout, row: u32, column: u32, position: u32) -> usize
 
 // The place of a field of an MD file, named by its coordinates, of which 0 names the headers and the user record, and its position, counted from 1. Refused
 // with 7 where there is no such row, column or position, or the layout is above the bounds that opening sets.
+#[tactic(auto, unfolding(md_rules::specs::Places::field_place))]
 pub fn field_place(layout: MdLayout, row: u32, column: u32, position: u32) -> PlaceAnswer
     ensures { place_says result ≡ field_place layout row column position }
 {

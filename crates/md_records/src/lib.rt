@@ -1,4 +1,6 @@
 // Complete records of an MD file, copied into a lent output.
+#![tactic(auto)]
+
 ghost use Rattle.std.specs.Prelude.{◌≡◌, ◌≤◌, length};
 ghost use Rattle.lists.specs.Lists.{over};
 ghost use Rattle.refusal_rules.specs.Rules.{first_fault};
@@ -17,6 +19,7 @@ use refusal_rules::{NO_SUCH, Refusal, SHORT_OUTPUT, SizeAnswer, Verdict};
 use word_copy_steps::fill_words;
 
 // What the rules of a record of a row and a column say: 7 where there is no such record.
+#[tactic(auto, unfolding(md_part_rules::specs::Records::record_rules, refusal_rules::specs::Rules::chained))]
 fn record_verdict(l: MdLayout, row: u32, column: u32) -> Verdict
     ensures { result ≡ first_fault (record_rules l row column) }
 {
@@ -51,6 +54,7 @@ fn fill_record(file: &[u8], l: MdLayout, row: u32, column: u32, out: &mut [i32])
 }
 
 // Copies a record of an accepted file. Refused with 7 where there is no such record, then with 10 where the output is too short.
+#[tactic(auto, unfolding(md_part_rules::specs::Records::record_in))]
 fn copy_of(file: &[u8], l: MdLayout, row: u32, column: u32, out: &mut [i32]) -> SizeAnswer
     requires { MdOf l.order file.now l }
     ensures { (size_says result, out.new) ≡ copied (record_in file.now l row column) out.old }

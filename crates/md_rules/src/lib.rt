@@ -1,12 +1,14 @@
 // MD files, point records: the opening checks as a table, when a file is accepted, its layout, and where its fields are. There is no code here: see specs/
 // and proofs/.
+#![tactic(auto)]
+
 use endian_rules::Order;
 use refusal_rules::Refusal;
 
 // What opening an MD file finds: the byte order in which it was opened and the file's length in bytes; and as raw words the rows (word 3),
 // columns (word 4) and keys (word 5), of which so many are row-header keys (word 6), column-header keys (word 7) and data keys
 // (word 8), and the words at which the column headers (word 28) and the data (word 29) start. "Layout" is document 01's term.
-#[derive(Drop)]
+#[derive(Clone, Copy)]
 pub struct MdLayout {
     pub order: Order,
     pub length: usize,
@@ -21,7 +23,7 @@ pub struct MdLayout {
 }
 
 // What opening an MD file answers: its layout, or a refusal.
-#[derive(Drop)]
+#[derive(Clone, Copy)]
 pub enum MdOpening {
     Opened(MdLayout),
     Refused(Refusal),

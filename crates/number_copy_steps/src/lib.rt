@@ -1,6 +1,8 @@
 // Runs of unsigned numbers, of at most four bytes each and in either byte order, that are copied into a lent output.
 //
 // The callers find out where the numbers lie; they must make sure that these are inside the file.
+#![tactic(auto)]
+
 ghost use Rattle.std.specs.Prelude.{◌≡◌, ℕ, ◌+◌, ◌*◌, ◌≤◌, ◌<◌, length};
 ghost use Rattle.endian_rules.specs.declared.Order.TheVariants.{Big};
 ghost use Rattle.refusal_rules.specs.Answers.{gives, size_says};

@@ -1,5 +1,7 @@
 // How long the prefix of a line of an AREA file is, and how long the padding at its end, by what the directory gives of the regions before the padding: whether W36
 // is 0, where there is no validity code, and the bytes of documentation (W49), calibration (W50) and band list (W51).
+#![tactic(auto)]
+
 ghost use Rattle.std.specs.Prelude.{◌≡◌, ◌≤◌, eqb};
 ghost use Rattle.lists.specs.Segments.{total};
 ghost use Rattle.area_rules.specs.Lines.{validity_length, given_regions, rounded_up, prefix_length, padding_length};

@@ -1,4 +1,6 @@
 // A file and a layout carried together as one thing, and the calls that read through it.
+#![tactic(auto)]
+
 ghost use Rattle.std.specs.Prelude.{◌≡◌};
 ghost use Rattle.refusal_rules.specs.Answers.{number_says, word_says, size_says};
 ghost use Rattle.span_rules.specs.Spans.{lent_bytes, that_part};
@@ -15,7 +17,7 @@ use refusal_rules::{NumberAnswer, SizeAnswer, WordAnswer};
 
 // The bytes of a file, with a layout. Document 01: "Display code carries file bytes and layout together as one thing and reads through it, with the same
 // answers." A caller can make the layout up: nothing is known of its fields until a call finds it to be the one that opening the file gives.
-#[derive(Drop)]
+#[derive(Clone, Copy)]
 pub struct Reader<'a> {
     file: &'a [u8],
     layout: Layout,

@@ -1,4 +1,6 @@
 // The single read of a value of every kind, and where a named value lies in a file.
+#![tactic(auto)]
+
 ghost use Rattle.std.specs.Prelude.{◌≡◌};
 ghost use Rattle.refusal_rules.specs.Answers.{place_says, number_says, word_says};
 ghost use Rattle.value_rules.specs.Reading.{place_in, read_sample, IsWord, read_word, read_point, read_field};
@@ -27,6 +29,7 @@ pub fn place_in(file: &[u8], layout: Layout, name: ValueName) -> PlaceAnswer
 }
 
 // The sample of a line and an element, both counted from 0, and a slot or band of an AREA file: an unsigned number. Refused as `place_in`.
+#[tactic(auto, unfolding(value_rules::specs::Reading::read_sample))]
 pub fn read_sample(
     file: &[u8],
     layout: Layout,
@@ -54,6 +57,7 @@ pub fn read_sample(
 }
 
 // The signed word of a point or a field.
+#[tactic(auto, unfolding(value_rules::specs::Reading::read_word))]
 fn read_word_of(file: &[u8], layout: Layout, name: ValueName) -> WordAnswer
     requires { IsWord name }
     ensures { word_says result ≡ read_word file.now layout name }

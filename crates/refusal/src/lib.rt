@@ -1,5 +1,6 @@
 // One rule of a table applied after another, and the tests that rules are made of.
 #![tactic(auto)]
+
 ghost use Rattle.std.specs.Prelude.{◌≡◌, eqb};
 ghost use Rattle.lists.specs.Choices.{both, either};
 ghost use Rattle.refusal_rules.specs.Rules.{rule, judge, first};

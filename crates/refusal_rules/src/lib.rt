@@ -1,8 +1,9 @@
 // Refusals, answers, the verdict that rules come to, tables of rules and the tests that rules are made of. There is no code here: see specs/ and proofs/.
+#![tactic(auto)]
 
 // What a call answers where it refuses. "Refusal", its number and its place are document 01's terms: the number is that of a row of
 // its table, and the place is the one that the row gives.
-#[derive(Drop)]
+#[derive(Clone, Copy)]
 pub struct Refusal {
     pub number: u32,
     pub place: u64,
@@ -51,42 +52,42 @@ pub const NO_EMPTY_SLOT: u32 = 13;
 pub const NO_ROOM: u32 = 14;
 
 // What a call answers whose value is an unsigned number of 32 bits: the value, or a refusal.
-#[derive(Drop)]
+#[derive(Clone, Copy)]
 pub enum NumberAnswer {
     Value(u32),
     Refused(Refusal),
 }
 
 // What a call answers whose value is a signed word: the value, or a refusal.
-#[derive(Drop)]
+#[derive(Clone, Copy)]
 pub enum WordAnswer {
     Value(i32),
     Refused(Refusal),
 }
 
 // What a call answers whose value is an address, a length or a count: the value, or a refusal.
-#[derive(Drop)]
+#[derive(Clone, Copy)]
 pub enum SizeAnswer {
     Value(usize),
     Refused(Refusal),
 }
 
 // Where a value lies: the byte at which it starts, and how many bytes it has. "Place" is document 01's term.
-#[derive(Drop)]
+#[derive(Clone, Copy)]
 pub struct Place {
     pub address: usize,
     pub width: usize,
 }
 
 // What a call answers that finds a place: the place, or a refusal.
-#[derive(Drop)]
+#[derive(Clone, Copy)]
 pub enum PlaceAnswer {
     At(Place),
     Refused(Refusal),
 }
 
 // What the rules that were applied so far say: they all hold, or the first that does not gives this refusal.
-#[derive(Drop)]
+#[derive(Clone, Copy)]
 pub enum Verdict {
     Pass,
     Fault(Refusal),

@@ -1,4 +1,6 @@
 // A part of a file handed back. The callers find out where the part lies; they must make sure that it is inside the file.
+#![tactic(auto)]
+
 ghost use Rattle.std.specs.Prelude.{◌≡◌};
 ghost use Rattle.span_rules.specs.Spans.{span_says, lent_bytes, that_part, Inside};
 

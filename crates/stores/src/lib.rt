@@ -1,5 +1,7 @@
 // The stores of single values, into a file that is lent: a sample of an AREA file, a point of a grid, a field of an MD file. Each changes the bytes of its place only,
 // and a refusal changes nothing. What each does is its plan; that the order of stores does not matter is shown in store_rules.
+#![tactic(auto)]
+
 ghost use Rattle.std.specs.Prelude.{◌≡◌, ◌^◌, ◌≤◌, ◌+◌, ltb, length};
 ghost use Rattle.store_theory.specs.Plans.{outcome};
 ghost use Rattle.store_rules.specs.Stores.{put_at, store_sample, store_point, store_field};
@@ -30,6 +32,7 @@ fn fits_width(number: u32, width: usize) -> bool
 }
 
 // Puts a number at a place. Refused with 8 where it does not fit the place's bytes.
+#[tactic(auto, unfolding(store_theory::specs::Plans::outcome, store_rules::specs::Stores::put_at))]
 fn put(file: &mut [u8], order: Order, place: Place, number: u32) -> StoreAnswer
     requires { ((1 ≤ place.width) × (place.width ≤ 4)) × (place.address + place.width ≤ length file.old) }
     ensures { (store_says result, file.new) ≡ outcome file.old (put_at order number place) }
@@ -46,6 +49,7 @@ fn put(file: &mut [u8], order: Order, place: Place, number: u32) -> StoreAnswer
 }
 
 // Stores the number that a value's bits are.
+#[tactic(auto, unfolding(store_theory::specs::Plans::outcome))]
 fn store(file: &mut [u8], layout: Layout, name: ValueName, number: u32) -> StoreAnswer
     ensures { (store_says result, file.new) ≡ store_at file.old layout name number }
 {

@@ -4,6 +4,8 @@
 //
 // The first line of a script lists the words, in the order of their numbers, which `asks`, `changes` and the constants below have. Each line behind it is a word and
 // numbers, which may be negative and may have anything but digits between them. Any other line is written as it is.
+#![tactic(auto)]
+
 mod answers;
 mod asks;
 mod changes;

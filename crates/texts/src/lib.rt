@@ -1,4 +1,6 @@
 // Texts that bytes and numbers are appended to, in room for 512 bytes.
+#![tactic(auto)]
+
 ghost use Rattle.std.specs.Prelude.{◌≡◌};
 ghost use Rattle.listing_rules.specs.Page.{labelled};
 ghost use Rattle.listing_rules.specs.Steps.{append_byte, append_bytes};
@@ -6,6 +8,7 @@ ghost use Rattle.listing_rules.specs.Steps.{append_byte, append_bytes};
 use listing_rules::Text;
 
 // A text with a byte behind it, which is left out where there is no room.
+#[tactic(auto, unfolding(listing_rules::specs::Steps::append_byte))]
 fn append_byte(text: Text, byte: u8) -> Text
     ensures { result ≡ append_byte text byte }
 {
@@ -36,6 +39,7 @@ pub fn append_bytes(text: Text, more: &[u8]) -> Text
 }
 
 // A text with a word behind it, and behind the word the decimal digits of a number; bytes are left out for which there is no room.
+#[tactic(auto, unfolding(listing_rules::specs::Page::labelled))]
 pub fn append_number(text: Text, word: &[u8], n: u64) -> Text
     ensures { result ≡ append_bytes text (labelled word.now n) }
 {

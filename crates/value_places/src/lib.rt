@@ -1,4 +1,6 @@
 // Where a named value of a file of any kind lies, by a layout alone: the samples of an AREA file, the points of a grid, the fields of an MD file.
+#![tactic(auto)]
+
 ghost use Rattle.std.specs.Prelude.{◌≡◌};
 ghost use Rattle.refusal_rules.specs.Answers.{place_says};
 ghost use Rattle.value_rules.specs.Places.{place_of};
@@ -22,6 +24,7 @@ fn no_such() -> PlaceAnswer
 
 // Where a named value lies, by a layout alone. Refused with 7 where the layout is of another kind than the name, then with 4 at 19 where a band is named and
 // the band map is unusable, then with 7 where there is no such line, element, slot, band, point or field, or the layout is above the bounds that opening sets.
+#[tactic(auto, unfolding(value_rules::specs::Places::place_of))]
 pub fn place_of(layout: Layout, name: ValueName) -> PlaceAnswer
     ensures { place_says result ≡ place_of layout name }
 {

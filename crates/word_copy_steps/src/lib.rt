@@ -1,6 +1,8 @@
 // Signed words that are copied into a lent output: one line of words that fills it, or lines of words one after another, in either byte order.
 //
 // The callers find out where the words lie; they must make sure that these are inside the file.
+#![tactic(auto)]
+
 ghost use Rattle.std.specs.Prelude.{◌≡◌, ℕ, ◌+◌, ◌*◌, ◌≤◌, ◌<◌, ◌^◌, length};
 ghost use Rattle.lists.specs.Lists.{over};
 ghost use Rattle.endian_rules.specs.declared.Order.TheVariants.{Big};
