@@ -1,0 +1,26 @@
+-- `endian_steps::write_number` meets its contract. The loop goes from the least significant digit up: after k turns the low k bytes of the
+-- number stand at their place, and `left` is what is left of it.
+-- Assumes nothing.
+use mathlib.Core.Path.{◌≡◌, ap, ◌∙◌}
+use Prim.Native.Nat.{ℕ, ◌+◌, ◌-◌, ◌/◌, ◌^◌, ◌≤◌}
+use native.Mathlib.Omega.{arith}
+use lib.ListN.{length}
+use lib.Seq.{sets, length-sets}
+use Rattle.endian_rules.specs.Numbers.{encode}
+use Rattle.endian_rules.proofs.Numbers.{position-inside}
+use Rattle.endian_rules.proofs.Places.{low_start, written_none, written_more, written_all, left_more}
+use Rattle.endian_steps.proofs.write_number.Goals as goal
+
+pub loop-k-init : goal.loop-k-init
+loop-k-init c =
+    let a = c.args in
+    (omega arith, written_none a.order a.width a.file.now a.at a.n, omega arith)
+
+pub loop-k-preserved : goal.loop-k-preserved
+loop-k-preserved c =
+    let a = c.args in
+    let l = c.loop-k in (
+      omega arith,
+      rw (l.invariant.1, c.digit_position-i.ensures, l.invariant.2) (written_more a.order a.width a.file.now a.at a.n l.k c.loop-k-test.true),
+      rw l.invariant.2 (left_more a.n l.k),
+    )

@@ -1,0 +1,19 @@
+-- `endian_steps::write_number` meets its contract. The loop goes from the least significant digit up: after k turns the low k bytes of the
+-- number stand at their place, and `left` is what is left of it.
+-- Assumes nothing.
+use mathlib.Core.Path.{◌≡◌, ap, ◌∙◌}
+use Prim.Native.Nat.{ℕ, ◌+◌, ◌-◌, ◌/◌, ◌^◌, ◌≤◌}
+use native.Mathlib.Omega.{arith}
+use lib.ListN.{length}
+use lib.Seq.{sets, length-sets}
+use Rattle.endian_rules.specs.Numbers.{encode}
+use Rattle.endian_rules.proofs.Numbers.{position-inside}
+use Rattle.endian_rules.proofs.Places.{low_start, written_none, written_more, written_all, left_more}
+use Rattle.endian_steps.proofs.write_number.Given as goal
+
+abbrev pub invariant-loop-k : goal.invariant-loop-k
+invariant-loop-k l =
+    (l.k ≤ l.width) × (l.file ≡ sets l.initial.file (l.at + low_start l.order l.width l.k) (encode l.order l.k l.n)) × (l.left ≡ l.n / 256 ^ l.k)
+
+abbrev pub decreases-loop-k : goal.decreases-loop-k
+decreases-loop-k l = l.width - l.k

@@ -1,0 +1,23 @@
+-- `md_places::field_place` meets its contract: the verdict picks the answer.
+-- Assumes nothing.
+use mathlib.Core.Path.{◌≡◌, sym, ap, ◌∙◌}
+use Prim.Native.Nat.{ℕ}
+use native.Mathlib.Omega.{arith}
+use Rattle.refusal_rules.specs.Answers.{gives, word_place}
+use Rattle.refusal_rules.proofs.Tables.{pass_hold}
+use Rattle.md_rules.specs.Fields.{field_word}
+use Rattle.md_rules.specs.Places.{field_place}
+use Rattle.md_rules.proofs.Sizes.{field_most}
+use Rattle.md_rules.proofs.Tables.{fields_hold}
+use borrow.Author.Rules.{rules}
+use Rattle.md_places.proofs.field_place.Goals as goal
+
+pub field_word-requires : goal.field_word-requires
+field_word-requires c = (fields_hold _ _ _ _).0 (pass_hold _ (sym c.field_verdict.ensures ∙ c.in-Pass.is))
+
+pub overflow_mul-result : goal.overflow_mul-result
+overflow_mul-result c =
+    let s = c in
+    let h = (fields_hold _ _ _ _).0 (pass_hold _ (sym c.field_verdict.ensures ∙ c.in-Pass.is)) in
+    let word : c.field_word.result ≡ field_word s.args.layout s.args.row s.args.column s.args.position = c.field_word.ensures in
+    omega (arith, word, field_most h.0 h.1 (omega (arith, s.well_formed.0)) (omega (arith, s.well_formed.0)) (omega (arith, s.ranges.position)))
