@@ -10,8 +10,8 @@ use mathlib.Core.Path.{◌≡◌, refl, sym, ap}
 use Prim.Native.Nat.{ℕ, suc}
 use mathlib.Core.List.{List, [], ◌∷◌}
 use seplogic.Ra.Ura.{Ura}
-use seplogic.Ra.TreeShare.{full_share}
-use mir.Syntax.{Name, Lifetime, named}
+use base.Fraction.{full_share}
+use mir.Syntax.{Callee, Lifetime, named}
 use mir.Val.{Val}
 use base.Logic.{SProp, ent, sep, ex, guard, emp, id⊢}
 use base.Fml.{Lft, GName, Share, Fml, ftrue, flft}
@@ -67,7 +67,7 @@ module _ (E : RattleType) (ℓ : Lifetime) (κ : Lft) (q : Share) (x : Bor (List
     vals ν = valss (rows (ν ∷ [], κs) ks) (spells (ν ∷ [], κs) ks) (rest ν)
 
     -- the call runs with the slice as `&mut`
-    pub lends_mut : (callee : Name) → Triple 𝓤 (C callee) (Contracted 𝓛 (TakesMut E m ks R) c)
+    pub lends_mut : (callee : Callee) → Triple 𝓤 (C callee) (Contracted 𝓛 (TakesMut E m ks R) c)
         → (us : List Val) → ((ν : ℕ) → passed_as (ν ∷ [], κs) ks (rest ν) ≡ us)
         → (P : SProp 𝓤) → ((ν : ℕ) → ent 𝓤 P (sem 𝓛 (owns (rows (ν ∷ [], κs) ks) (rest ν) (vals ν))))
         → (g : (ν : ℕ) (δ : GName) → (c (ν ∷ [], κs) (args ν δ)).ghost)
@@ -103,7 +103,7 @@ module _ (E : RattleType) (ℓ : Lifetime) (κ : Lft) (q : Share) (x : Bor (List
     vals_shown μ = valss (rows (μ ∷ [], tt) (types_of vs)) (spells (μ ∷ [], tt) (types_of vs)) (rest μ)
 
     -- the call runs with the slice as `&`
-    pub lends_shr : (callee : Name) → Triple 𝓤 (C callee) (Contracted 𝓛 (TakesShr E (types_of vs) R) c)
+    pub lends_shr : (callee : Callee) → Triple 𝓤 (C callee) (Contracted 𝓛 (TakesShr E (types_of vs) R) c)
         → (us : List Val) → ((μ : ℕ) → passed_as (μ ∷ [], tt) (types_of vs) (rest μ) ≡ us)
         → ((μ : ℕ) → Related (μ ∷ [], tt) (types_of vs) (rest μ)) → (g : (μ : ℕ) (ε : GName) → (c (μ ∷ [], tt) (shown μ ε)).ghost)
         → ((μ : ℕ) (ε : GName) → ent 𝓤 (emp 𝓤) ((c (μ ∷ [], tt) (shown μ ε)).requires (g μ ε))) → (Q : R.Denot → Type 0)
@@ -148,7 +148,7 @@ module _ (E F : RattleType) (ℓ ℓ' : Lifetime) (κ κ' : Lft) (q q' : Share) 
       vals-lent κs = valss (rows κs (types_of vs)) (spells κs (types_of vs)) (rest κs)
 
       -- the call runs with x as `&mut` and z as `&`
-      pub lends_both : (callee : Name) → Triple 𝓤 (C callee) (Contracted 𝓛 (TakesBoth E F (types_of vs) R) c) → (us : List Val)
+      pub lends_both : (callee : Callee) → Triple 𝓤 (C callee) (Contracted 𝓛 (TakesBoth E F (types_of vs) R) c) → (us : List Val)
           → ((κs : Lfts 2) → passed_as κs (types_of vs) (rest κs) ≡ us)
           → ((κs : Lfts 2) → Related κs (types_of vs) (rest κs))
           → (g : (ν μ : ℕ) (δ ε : GName) → (c (ν ∷ [], (μ ∷ [], tt)) (lent-args ν μ δ ε)).ghost)
@@ -207,7 +207,7 @@ module _ (E F : RattleType) (ℓ : Lifetime) (κ κ' : Lft) (q q' : Share) (x : 
       past-vals κs = valss (rows κs (types_of vs)) (spells κs (types_of vs)) (rest κs)
 
       -- the call runs with x as `&mut` and z as `&`
-      pub lends-past : (callee : Name) → Triple 𝓤 (C callee) (Contracted 𝓛 (TakesBoth E F (types_of vs) R) c) → (us : List Val)
+      pub lends-past : (callee : Callee) → Triple 𝓤 (C callee) (Contracted 𝓛 (TakesBoth E F (types_of vs) R) c) → (us : List Val)
           → ((κs : Lfts 2) → passed_as κs (types_of vs) (rest κs) ≡ us)
           → ((κs : Lfts 2) → Related κs (types_of vs) (rest κs))
           → (g : (ν : ℕ) (δ : GName) → (c (ν ∷ [], (κ', tt)) (past-args ν δ)).ghost)

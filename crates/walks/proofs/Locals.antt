@@ -13,7 +13,7 @@ use Prim.Native.Nat.{ℕ, zero}
 use mathlib.Core.List.{List, [], ◌∷◌, ◌++◌}
 use lib.Dec.{T}
 use seplogic.Ra.Ura.{Ura}
-use seplogic.Ra.TreeShare.{full_share}
+use base.Fraction.{full_share}
 use mir.Syntax.{Local, local, Fn, Width, int_big, copy, place}
 use mir.Val.{Val, vint, Fits, has_ty, WT}
 use base.Logic.{SProp, ent, sep, guard_i, via, comm∗, assoc∗, assoc', mono_l, mono_r}

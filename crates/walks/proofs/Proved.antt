@@ -10,7 +10,7 @@ use mir.Syntax.{Fn}
 use mir.Val.{Val}
 use base.Logic.{SProp, ent, sep}
 use prog.Model.{Model}
-use prog.Routine.{Name, Env}
+use prog.Routine.{Callee, Env}
 use prog.Wp.{WpFn, Closed}
 use types.Logic.{Logic}
 use contract.Lifetimes.{Lfts, Shares}
@@ -45,7 +45,7 @@ module _ {n : ℕ} (ps : List (Parameter n)) (r : Slot n) {M : Type 1} {𝓤 : U
   -- the function of the name k
   open 𝓛 use {H}
 
-  pub proved : (c : Clauses 𝓤 (ended (knowns ps) r)) (k : Name) (e : Fn) → Closed 𝓤 H (tables 𝓤 H 𝓜 𝓡 γ).C (tables 𝓤 H 𝓜 𝓡 γ).Λ k e
+  pub proved : (c : Clauses 𝓤 (ended (knowns ps) r)) (k : Callee) (e : Fn) → Closed 𝓤 H (tables 𝓤 H 𝓜 𝓡 γ).C (tables 𝓤 H 𝓜 𝓡 γ).Λ k e
       → Walked ps r 𝓛 c (WpFn 𝓤 H (tables 𝓤 H 𝓜 𝓡 γ).C (tables 𝓤 H 𝓜 𝓡 γ).Λ e)
       → Triple 𝓤 ((tables 𝓤 H 𝓜 𝓡 γ).C k) (Contracted 𝓛 (ended (knowns ps) r) c)
   unfolding tables_of

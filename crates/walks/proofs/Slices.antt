@@ -8,7 +8,7 @@ use mathlib.Core.Option.{some}
 use mathlib.Core.List.{List, [], ◌∷◌}
 use Prim.Native.Nat.{ℕ, zero, ◌+◌}
 use seplogic.Ra.Ura.{Ura}
-use seplogic.Ra.TreeShare.{full_share}
+use base.Fraction.{full_share}
 use lib.Dec.{T}
 use mir.Fields.{get_v, set_v}
 use mir.Syntax.{Sym, Ty, ty_struct, ty_int, w64, Tys, tcons, tnil, copy, place, field, deref, addr_of, aggregate, Body, seq, assign}
