@@ -26,7 +26,7 @@ use denote.Shadow.{pure_l, pure_i}
 use denote.Laws.{Is, shows}
 use denote.Memory.{shares as shares_of}
 use denote.Ref.{Bor, MutBor, at_last}
-use denote.Shares.{Shares}
+use denote.Shares.{Shares as Shareable}
 use denote.Slice.{ShrSlice, MutSlice, heres, finally, mut_slice_at, coded_holeys, mut_slice_Fixes}
 use denote.Lend.{Held, lends_shr_slice}
 use denote.Index.{opens_slice, closes_slice}
@@ -88,7 +88,7 @@ module _ (R : RattleType) (ℓ : Lifetime) (κ : Lft) (q : Share) (x : MutBor (L
         rewrite t 0 (λ (us : List Val). ‵ ((MutSlice ℓ κ R).own_val (at_last x zs) us)) (sym p.0) refl $ fjoin t $ s))
 
     -- it is lent as `&`, where a `&` to an element is made with κ's token
-    pub lends_shared : K → Soaks G → Shares 𝓛 R κ → (ℓ' : Lifetime) (ys : List R.Denot)
+    pub lends_shared : K → Soaks G → Shareable 𝓛 R κ → (ℓ' : Lifetime) (ys : List R.Denot)
         → ((μ : ℕ) → Seq K 𝓛 (‵ ((ShrSlice ℓ' (μ ∷ []) R).own_val (as_shared ys) (v ∷ [])) ∷ ‵ (flft (μ ∷ []) full_share) ∷ ‵ (Shared μ ys) ∷ Γ) G)
         → Seq K 𝓛 (‵ (HasSlice ys) ∷ Γ) G
     lends_shared t z shareable ℓ' ys k = fsplit t $ fsplit t $ pure_l t (mut_slice_at R (at_last x ys) (v ∷ [])) (λ p. fsplit t $
