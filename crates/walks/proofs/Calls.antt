@@ -3,15 +3,15 @@
 --     Yields R Z       what a call ends in: after an update of ghost state, its result is the machine value of some r of the type R, and Z of r holds
 --     onward           of a call that ends in Q, what follows from Q is wanted
 --     yields           of a call that yields Y of its result, Z is wanted, which follows from Y
---     calls-into       in code: a call that yields Z of its result, and whose result is stored into the local at entry n
+--     calls_into       in code: a call that yields Z of its result, and whose result is stored into the local at entry n
 --     asks             what a callee asks is there, and the callee meets its contract: what it ensures is used
---     call-answers     what a callee leaves, taken apart: its result, of which the relation is learned; the tokens; the last lists; and what it ensures
+--     call_answers     what a callee leaves, taken apart: its result, of which the relation is learned; the tokens; the last lists; and what it ensures
 --     informs          what a call has left gives a fact, after an update of ghost state, and is used from there on
 --     hands_on         what a callee leaves gives what another contract wants, of the same result, which is of its type
 --     ValueIs          u is the machine value of an answer
---     call-yields      a callee that meets its contract can be called, where Q holds of its answer by that contract. Once it has returned, the tokens of its
+--     call_yields      a callee that meets its contract can be called, where Q holds of its answer by that contract. Once it has returned, the tokens of its
 --                      lifetimes are there again, and what else there was
---     call-answered    the same, where its answer is s by that contract, and s is z
+--     call_answered    the same, where its answer is s by that contract, and s is z
 -- Assumes nothing.
 use mathlib.Core.Path.{◌≡◌, sym, subst, ap, ◌∙◌}
 use mathlib.Core.List.{List, [], ◌∷◌}
@@ -50,9 +50,9 @@ abbrev pub Yields : {M : Type 1} (𝓤 : Ura M) (H : Heap 𝓤) (R : RattleType)
 Yields 𝓤 H R Z w = H.⇛ (ex 𝓤 (λ (r : R.Denot). guard 𝓤 (Is R r (w ∷ [])) (Z r)))
 
 module _ {M : Type 1} {𝓤 : Ura M} {𝓛 : Logic 𝓤} {K : Type 0} {Γ : List (Item 𝓤)} where
-  -- a call that ends in Q ends in Z
   open 𝓛 use {H}
 
+  -- a call that ends in Q ends in Z
   pub onward : K → {C : Calls 𝓤 H} → FmC 𝓤 H 𝓛.laws C → {f : Callee} {vs : List Val} {Q Z : Val → SProp 𝓤} → ((w : Val) → Seq K 𝓛 (raw (Q w) ∷ Γ) (prop (Z w)))
       → Seq K 𝓛 (raw (C f vs Q) ∷ Γ) (prop (C f vs Z))
   onward t {C} fm {f} {vs} {Q} {Z} k = record {
@@ -95,9 +95,9 @@ module _ {M : Type 1} {𝓤 : Ura M} {𝓛 : Logic 𝓤} {K : Type 0} {Γ : List
   informs t z {P} {Q} {φ} h k = use1 𝓛 (later (given φ (raw Q))) h $ await t z $ learn t k
 
 module _ {M : Type 1} {𝓤 : Ura M} {𝓛 : Logic 𝓤} {K : Type 0} {Γ : List (Item 𝓤)} {E : Env 𝓤 𝓛.H} where
-  -- val gives the result's machine value, which is of the local's type
   open 𝓛 use {H}
 
+  -- val gives the result's machine value, which is of the local's type
   pub calls_into : K → {C : Calls 𝓤 H} {Λ : Loops 𝓤 H} {q : Post 𝓤 H} → FmC 𝓤 H 𝓛.laws C → {f : Callee} {xs : List Operand} {x : ℕ} {rest : Body} {vs : List Val}
       (n : ℕ) (R : RattleType) (val : R.Denot → Val) → Tells R (Is R) (λ r. val r ∷ []) → (Z : R.Denot → SProp 𝓤)
       → Opds K 𝓛 (raw (C f vs (Yields 𝓤 H R Z)) ∷ Γ) E xs vs
@@ -113,9 +113,9 @@ module _ {M : Type 1} {𝓤 : Ura M} {𝓛 : Logic 𝓤} {K : Type 0} {Γ : List
       subst (λ (u : Val). Seq K 𝓛 (raw (Z r) ∷ Γ) (lands C Λ E (place x []) u rest q)) (sym e) (land t (from t (stop t)) (init t n (room r) (fits r is')) $ k r is'))))
 
 module _ {M : Type 1} {𝓤 : Ura M} (𝓛 : Logic 𝓤) (n : ℕ) (κs : Lfts n) (qs : Shares n) (R : RattleType) where
-  -- what is there when a call has returned u, where E of its answer holds
   open 𝓛 use {H}
 
+  -- what is there when a call has returned u, where E of its answer holds
   abbrev pub Handed : (R.Denot → SProp 𝓤) → Val → SProp 𝓤
   Handed E u = H.⇛ (ex 𝓤 (λ (x : R.Denot). sep 𝓤 (sep 𝓤 (toks 𝓛 n κs qs) (sem 𝓛 (R.own_val x (u ∷ [])))) (E x)))
 

@@ -6,6 +6,9 @@
 --     lends, comes_home    it is lent as `&mut`; it comes back at the last list zs, which is as long as ys
 --     Shared μ ys          what it keeps while the slice is lent as `&`, for μ
 --     lends_shared, returns_home       it is lent as `&`; it comes back as it was
+--     Shareable 𝓛 R κ      (`denote.Shares.Shares`) a `&` to an R in memory can be made with a token of κ, which `lends_shared` asks. A Copy type is at any κ
+--                          (`denote.Copied.Copied`'s `shares`), and another that is at its own lifetimes (`denote.Param.Laws.Laws`'s `shares`) where κ ends no later than those
+--                          (`denote.Shares.Shares-less`)
 -- Assumes nothing.
 use mathlib.Core.Path.{◌≡◌, refl, sym, ap}
 use Prim.Native.Nat.{ℕ}

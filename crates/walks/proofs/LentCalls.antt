@@ -1,9 +1,9 @@
 -- Calls that are lent slices which the function holds as `&mut` (`Held.antt`).
 --     TakesMut             the signature of a call with a `&mut [E]`, which is passed `ks` besides, at m lifetimes of their own, and answers with an R
---     lends-mut            the slice is held at ys, the m lifetimes' tokens are there, and P, which gives what `ks` own; the call's contract says Q of its answer and
+--     lends_mut            the slice is held at ys, the m lifetimes' tokens are there, and P, which gives what `ks` own; the call's contract says Q of its answer and
 --                          of the slice's last list; the call runs, and then the slice is held again, at that list, and the tokens are there
---     TakesShr, lends_shr  the same of a call with a `&[E]`, and no other lifetimes; the slice stays as it was
---     TakesBoth, lends_both        the same of a call with a `&mut [E]` and a `&[F]`, and no other lifetimes
+--     TakesShr, lends_shr  the same of a call with a `&[E]`, and no other lifetimes, where E is `Shareable` at κ; the slice stays as it was
+--     TakesBoth, lends_both        the same of a call with a `&mut [E]` and a `&[F]`, and no other lifetimes, where F is `Shareable` at κ'
 --     lends-past           the same where the function has the second slice as `&`, and passes on what it owns of it
 -- Assumes nothing.
 use mathlib.Core.Path.{◌≡◌, refl, sym, ap}
@@ -194,9 +194,9 @@ module _ (E F : RattleType) (ℓ : Lifetime) (κ κ' : Lft) (q q' : Share) (x : 
   PassedOn = (ShrSlice (named 1) κ' F).own_val z (pv ∷ [])
 
   module _ {M : Type 1} {𝓤 : Ura M} (𝓛 : Logic 𝓤) (C : Calls 𝓤 𝓛.H) (fm : FmC 𝓤 𝓛.H 𝓛.laws C) (xs : List E.Denot) where
-    -- the token of z's lifetime
     open 𝓛 use {H}
 
+    -- the token of z's lifetime
     abbrev Token : SProp 𝓤
     Token = toks 𝓛 1 (κ', tt) (q', tt)
 
