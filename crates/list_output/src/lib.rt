@@ -13,7 +13,8 @@ use std::io::Write;
 // Writes the listing of an AREA file to a writer, and answers how many bytes it has handed to the write: all of the listing's. A write that fails is the error.
 fn write_listing<W: Write>(out: &mut W, file: &[u8]) -> io::Result<usize>
     ensures count { IfOk result (λ n. n ≡ length (listing_text file.now)) }
-    ensures bytes { OnOk result (Appends (W.contents out.old) (W.contents out.new) (listing_text file.now)) }
+    ensures bytes { OnOk result (Appends (W.contents out.old) (W.contents out.new)
+        (listing_text file.now)) }
 {
     let mut text = [0u8; 512];
     match list_text(file, &mut text) {
