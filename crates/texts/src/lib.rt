@@ -1,8 +1,7 @@
 // Texts that bytes and numbers are appended to, in room for 512 bytes.
 #![tactic(auto)]
 
-ghost use Rattle.std.specs.Prelude.{◌≡◌, ◌≤◌, ◌<◌, ◌^◌, take};
-ghost use Rattle.listing_rules.specs.Decimal.{decimal, decimal_within};
+ghost use Rattle.std.specs.Prelude.{◌≡◌};
 ghost use Rattle.listing_rules.specs.Page.{labelled};
 ghost use Rattle.listing_rules.specs.Steps.{append_byte, append_bytes};
 
@@ -39,38 +38,13 @@ pub fn append_bytes(text: Text, more: &[u8]) -> Text
     t
 }
 
-// Writes the decimal digits of a number below 10 ^ most to the front of an array, and answers how many they are.
-#[tactic(auto, unfolding(listing_rules::specs::Decimal::decimal_within))]
-fn write_digits(most: usize, n: u64, out: &mut [u8; 20]) -> usize
-    requires some { 0 < most }
-    requires room { most ≤ 20 }
-    requires few { n < 10 ^ most }
-    ensures within { result ≤ most }
-    ensures digits { take result out.new ≡ decimal_within most n }
-{
-    if n < 10 {
-        out[0] = 48 + n as u8;
-        return 1;
-    }
-    let count = write_digits(most - 1, n / 10, out);
-    out[count] = 48 + (n % 10) as u8;
-    count + 1
-}
-
-// Writes the decimal digits of a number to the front of an array, and answers how many they are.
-fn decimal(n: u64, out: &mut [u8; 20]) -> usize
-    ensures within { result ≤ 20 }
-    ensures digits { take result out.new ≡ decimal n }
-{
-    write_digits(20, n, out)
-}
-
 // A text with a word behind it, and behind the word the decimal digits of a number; bytes are left out for which there is no room.
+#[tactic(auto, unfolding(listing_rules::specs::Page::labelled))]
 pub fn append_number(text: Text, word: &[u8], n: u64) -> Text
     ensures { result ≡ append_bytes text (labelled word.now n) }
 {
     let mut digits = [0u8; 20];
-    let count = decimal(n, &mut digits);
+    let count = io::decimal(n, &mut digits);
     append_bytes(append_bytes(text, word), &digits[..count])
 }
 
