@@ -18,17 +18,17 @@ use Rattle.area_blocks.proofs.audit_span.Goals as goal
 
 -- the bytes of DATA that were found
 bytes_at_After_struct_known_in_Value_1 : (c : goal.After-struct_known-in-Value-1)
-    → let l = c.args.l in c.before.«data».given.0.0 ≡ l.lines * line_length_in l
+    → let l = c.args.l in c.in-Value.«data» ≡ l.lines * line_length_in l
 bytes_at_After_struct_known_in_Value_1 c =
     let s = c in
-    gives-same (ap size_says (sym c.before.«data».given.1) ∙ c.data_length.ensures ∙ data_length s.args.l s.requires)
+    gives-same (ap size_says (sym c.in-Value.is) ∙ c.data_length.ensures ∙ data_length s.args.l s.requires)
 
 -- the bytes of DATA that were found
 bytes_at_After_struct_known_in_Value_2_1 : (c : goal.After-struct_known-in-Value-2-1)
-    → let l = c.args.l in c.before.«data».given.0.0 ≡ l.lines * line_length_in l
+    → let l = c.args.l in c.in-Value.«data» ≡ l.lines * line_length_in l
 bytes_at_After_struct_known_in_Value_2_1 c =
     let s = c in
-    gives-same (ap size_says (sym c.before.«data».given.1) ∙ c.data_length.ensures ∙ data_length s.args.l s.requires)
+    gives-same (ap size_says (sym c.in-Value.is) ∙ c.data_length.ensures ∙ data_length s.args.l s.requires)
 
 pub overflow_add-result : goal.overflow_add-result
 overflow_add-result c =
@@ -44,6 +44,6 @@ pub returns-in-Value : goal.returns-in-Value
 unfolding block_of block_rules first_fault first judge
 returns-in-Value c =
     let l = c.args.l in
-    let start : l.data_start + c.before.before.before.«data».given.0.0 ≡ data_end_in l = omega (arith, bytes_at_After_struct_known_in_Value_2_1 c) in
+    let start : l.data_start + c.in-Value.«data» ≡ data_end_in l = omega (arith, bytes_at_After_struct_known_in_Value_2_1 c) in
     let size : 80 * l.cards ≡ block_length l Audit = omega arith in
     rw (ne_eqb _ _ c.if-l-eq0.false) (ap₂ (λ (a n : ℕ). gives (span a n)) start size)

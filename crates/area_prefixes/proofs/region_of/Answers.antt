@@ -28,11 +28,6 @@ verdict_at_In_Fault : (c : goal.In-Fault)
 unfolding region_rules chained
 verdict_at_In_Fault c = by_table _ (rw (c.check.ensures, c.check-lines.ensures, c.region_in_prefix-part.ensures))
 
-verdict_at_In_Pass : (c : goal.In-Pass)
-    → let a = c.args in c.check.result ≡ first_fault (region_rules a.l a.line a.region)
-unfolding region_rules chained
-verdict_at_In_Pass c = by_table _ (rw (c.check.ensures, c.check-lines.ensures, c.region_in_prefix-part.ensures))
-
 verdict_at_In_Refused : (c : goal.In-Refused)
     → let a = c.args in c.check.result ≡ first_fault (region_rules a.l a.line a.region)
 unfolding region_rules chained
@@ -49,12 +44,6 @@ line_at_In_Refused : (c : goal.In-Refused) → let a = c.args in a.line < a.l.li
 line_at_In_Refused c =
     let a = c.args in
     ((region_hold a.l a.line a.region).0 (pass_hold _ (sym (verdict_at_In_Refused c) ∙ c.in-Pass.is))).0
-
--- where it passes, there is such a line
-line : (c : goal.In-Pass) → let a = c.args in a.line < a.l.lines
-line c =
-    let a = c.args in
-    ((region_hold a.l a.line a.region).0 (pass_hold _ (sym (verdict_at_In_Pass c) ∙ c.in-Pass.is))).0
 
 -- the start that was found
 found : (c : goal.After-struct_known-in-Value-1) → let a = c.args in c.in-Value.start ≡ line_start a.l a.line
