@@ -20,7 +20,7 @@ use Rattle.grid_rules.specs.Opening.{open_grid}
 use Rattle.grid_rules.specs.declared.GridLayout.{GridLayout}
 use Rattle.layout_rules.specs.Layouts.{kind_of, layout_order}
 use Rattle.layout_rules.specs.declared.Layout.{Layout}
-use Rattle.layout_rules.specs.declared.Layout.TheVariants.{Grid}
+use Rattle.layout_rules.specs.declared.Layout.TheVariants.{Area, Grid, Md}
 use Rattle.value_rules.specs.declared.ValueName.TheVariants.{Point}
 use Rattle.value_rules.proofs.Places.{Located, point_at_lem, points_named}
 use Rattle.value_rules.specs.Reading.{read_point}
@@ -66,6 +66,8 @@ one_point f l x y a p q =
   where
     step : (m : Layout) (u w : Place) → Located f m (Point x.row x.column) u → Located f m (Point y.row y.column) w → u.address ≡ w.address
         → (x.row ≡ y.row) × (x.column ≡ y.column)
+    step (Area _) u w at at' same = elim at [ ]
+    step (Md _) u w at at' same = elim at [ ]
     step (Grid m) u w (point_at_lem opens is at) at' same = points_named (point_at_lem opens is at) at' same
 
 -- Two corrections in one order and in the other: they leave the same bytes, and each is answered what it would be answered alone.

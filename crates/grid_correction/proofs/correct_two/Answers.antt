@@ -20,6 +20,6 @@ returns c =
     let (told, left) =
     run_is stores_in
     (call (one.ensures ∙ ap (store_point a.file.now a.layout x.row x.column) same)
-    (call (c.store_point-other.ensures ∙ ap (store_point one.new.0 a.layout y.row y.column) same-2)
+    (call (c.store_point-other.ensures ∙ ap (store_point one.new.file a.layout y.row y.column) same-2)
     (done refl))) in
     ap₂ (λ r g. (r, g)) told left
