@@ -104,6 +104,8 @@ sample_exactly f l i e c n = (λ q. let (p, at, value) = exactly.0 q in to l p r
     exactly = made_exactly (λ p. number_at (layout_order l) p.width f p.address) f l (Sample i e c) n
 
     to : (m : Layout) (p : Place) → l ≡ m → Located f m (Sample i e c) p → n ≡ number_at (layout_order l) p.width f p.address → SampleOf f l i e c n
+    to (Grid _) p same x4 value = elim x4 [ ]
+    to (Md _) p same x5 value = elim x5 [ ]
     to (Area a) p same (sample_at {s = s} opens slot is at) value =
         record {
           area = a;
@@ -159,6 +161,8 @@ module _ (f : List ℕ) (l : Layout) where
   point_exactly r c v = (λ q. let (p, at, value) = (word_exactly (Point r c) v).0 q in to l p refl at.1 value, from)
     where
       to : (m : Layout) (p : Place) → l ≡ m → Located f m (Point r c) p → v ≡ signed_at (layout_order l) f p.address → PointOf r c v
+      to (Area _) p same x4 value = elim x4 [ ]
+      to (Md _) p same x5 value = elim x5 [ ]
       to (Grid g) p same (point_at_lem opens is at) value =
           record { grid = g; layout = same; opens = opens; is = is; value = word_at_lem (point_word g r c) same at value }
 
@@ -186,6 +190,8 @@ module _ (f : List ℕ) (l : Layout) where
   field_exactly r c k v = (λ q. let (p, at, value) = (word_exactly (Field r c k) v).0 q in to l p refl at.1 value, from)
     where
       to : (m : Layout) (p : Place) → l ≡ m → Located f m (Field r c k) p → v ≡ signed_at (layout_order l) f p.address → FieldOf r c k v
+      to (Area _) p same x4 value = elim x4 [ ]
+      to (Grid _) p same x5 value = elim x5 [ ]
       to (Md g) p same (field_at opens is at) value =
           record { md = g; layout = same; opens = opens; is = is; value = word_at_lem (field_word g r c k) same at value }
 
