@@ -11,7 +11,7 @@ use Prim.Native.Nat.{ℕ}
 use mathlib.Core.List.{List, [], ◌∷◌}
 use lib.ListN.{length}
 use seplogic.Ra.Ura.{Ura}
-use seplogic.Ra.TreeShare.{full_share}
+use base.Fraction.{full_share}
 use mir.Syntax.{Lifetime}
 use mir.Val.{Val}
 use base.Logic.{ent, sep, ex}
@@ -29,9 +29,9 @@ use denote.Lend.{Held, lends_slice, slice_back}
 use denote.Index.{row, whole_out, whole_in, opens_slice, closes_slice}
 
 module _ {M : Type 1} {𝓤 : Ura M} (𝓛 : Logic 𝓤) (R : RattleType) (ℓ : Lifetime) (κ : Lft) (q : Share) (γ : GName) (b o : ℕ) where
-  -- the open borrow is closed with zs
   open 𝓛 use {H, A}
 
+  -- the open borrow is closed with zs
   pub closes_as : (ys zs : List R.Denot) → Room R (length ys) → length zs ≡ length ys
       → ent 𝓤 (⋆ 𝓛 (‵ (row R full_share zs b o) ∷ ‵ (fobor κ q (Held R (length ys) b o γ)) ∷ ‵ (fobs γ ((coded_holeys R).code (heres R ys))) ∷ ‵
       (fauth γ ((coded_holeys R).code (heres R ys))) ∷ []))

@@ -3,23 +3,23 @@
 --     Yields R Z       what a call ends in: after an update of ghost state, its result is the machine value of some r of the type R, and Z of r holds
 --     onward           of a call that ends in Q, what follows from Q is wanted
 --     yields           of a call that yields Y of its result, Z is wanted, which follows from Y
---     calls-into       in code: a call that yields Z of its result, and whose result is stored into the local at entry n
+--     calls_into       in code: a call that yields Z of its result, and whose result is stored into the local at entry n
 --     asks             what a callee asks is there, and the callee meets its contract: what it ensures is used
---     call-answers     what a callee leaves, taken apart: its result, of which the relation is learned; the tokens; the last lists; and what it ensures
+--     call_answers     what a callee leaves, taken apart: its result, of which the relation is learned; the tokens; the last lists; and what it ensures
 --     informs          what a call has left gives a fact, after an update of ghost state, and is used from there on
 --     hands_on         what a callee leaves gives what another contract wants, of the same result, which is of its type
 --     ValueIs          u is the machine value of an answer
---     call-yields      a callee that meets its contract can be called, where Q holds of its answer by that contract. Once it has returned, the tokens of its
+--     call_yields      a callee that meets its contract can be called, where Q holds of its answer by that contract. Once it has returned, the tokens of its
 --                      lifetimes are there again, and what else there was
---     call-answered    the same, where its answer is s by that contract, and s is z
+--     call_answered    the same, where its answer is s by that contract, and s is z
 -- Assumes nothing.
 use mathlib.Core.Path.{◌≡◌, sym, subst, ap, ◌∙◌}
 use mathlib.Core.List.{List, [], ◌∷◌}
 use Prim.Native.Nat.{ℕ}
 use seplogic.Ra.Ura.{Ura}
-use seplogic.Ra.TreeShare.{full_share}
+use base.Fraction.{full_share}
 use lib.Dec.{T}
-use mir.Syntax.{Name, Opd as Operand, Body, seq, call, place}
+use mir.Syntax.{Callee, Opd as Operand, Body, seq, call, place}
 use mir.Val.{Val, has_ty, WT}
 use base.Logic.{SProp, ent, sep, ex, ex_i, guard, guard_i, emp, id⊢, via}
 use base.Fml.{fat, froom}
@@ -50,10 +50,10 @@ abbrev pub Yields : {M : Type 1} (𝓤 : Ura M) (H : Heap 𝓤) (R : RattleType)
 Yields 𝓤 H R Z w = H.⇛ (ex 𝓤 (λ (r : R.Denot). guard 𝓤 (Is R r (w ∷ [])) (Z r)))
 
 module _ {M : Type 1} {𝓤 : Ura M} {𝓛 : Logic 𝓤} {K : Type 0} {Γ : List (Item 𝓤)} where
-  -- a call that ends in Q ends in Z
   open 𝓛 use {H}
 
-  pub onward : K → {C : Calls 𝓤 H} → FmC 𝓤 H 𝓛.laws C → {f : Name} {vs : List Val} {Q Z : Val → SProp 𝓤} → ((w : Val) → Seq K 𝓛 (raw (Q w) ∷ Γ) (prop (Z w)))
+  -- a call that ends in Q ends in Z
+  pub onward : K → {C : Calls 𝓤 H} → FmC 𝓤 H 𝓛.laws C → {f : Callee} {vs : List Val} {Q Z : Val → SProp 𝓤} → ((w : Val) → Seq K 𝓛 (raw (Q w) ∷ Γ) (prop (Z w)))
       → Seq K 𝓛 (raw (C f vs Q) ∷ Γ) (prop (C f vs Z))
   onward t {C} fm {f} {vs} {Q} {Z} k = record {
     prf = via 𝓤 (sep 𝓤 (C f vs Q) (⋆ 𝓛 Γ)) (pop 𝓛 (raw (C f vs Q)) Γ)
@@ -61,7 +61,7 @@ module _ {M : Type 1} {𝓤 : Ura M} {𝓛 : Logic 𝓤} {K : Type 0} {Γ : List
   }
 
   -- a call that yields Y of its result yields Z of it
-  pub yields : K → {C : Calls 𝓤 H} → FmC 𝓤 H 𝓛.laws C → {f : Name} {vs : List Val} (R : RattleType) (Z : R.Denot → SProp 𝓤) {Y : R.Denot → SProp 𝓤}
+  pub yields : K → {C : Calls 𝓤 H} → FmC 𝓤 H 𝓛.laws C → {f : Callee} {vs : List Val} (R : RattleType) (Z : R.Denot → SProp 𝓤) {Y : R.Denot → SProp 𝓤}
       → ((r : R.Denot) (w : Val) → Is R r (w ∷ []) → Seq K 𝓛 (raw (Y r) ∷ Γ) (upd (Z r)))
       → Seq K 𝓛 (raw (C f vs (Yields 𝓤 H R Y)) ∷ Γ) (prop (C f vs (Yields 𝓤 H R Z)))
   yields t fm R Z {Y} k = onward t fm (λ w. updating t $ use1 𝓛 (later (some (λ (r : R.Denot). given (Is R r (w ∷ [])) (raw (Y r))))) (id⊢ 𝓤 _) $ await t tt $
@@ -71,7 +71,7 @@ module _ {M : Type 1} {𝓤 : Ura M} {𝓛 : Logic 𝓤} {K : Type 0} {Γ : List
       })))
 
   -- a callee that meets c is called
-  pub asks : K → {C : Calls 𝓤 H} → FmC 𝓤 H 𝓛.laws C → {f : Name} (c : Contract 𝓤) → Triple 𝓤 (C f) c → (x : c.Ghost) {Z : Val → SProp 𝓤}
+  pub asks : K → {C : Calls 𝓤 H} → FmC 𝓤 H 𝓛.laws C → {f : Callee} (c : Contract 𝓤) → Triple 𝓤 (C f) c → (x : c.Ghost) {Z : Val → SProp 𝓤}
       → ((w : Val) → Seq K 𝓛 (raw (c.post x w) ∷ Γ) (prop (Z w))) → Seq K 𝓛 (raw (c.pre x) ∷ Γ) (prop (C f (c.args x) Z))
   asks t {C} fm {f} c met x k = use1 𝓛 (raw (C f (c.args x) (c.post x))) (met x) $ onward t fm k
 
@@ -95,10 +95,10 @@ module _ {M : Type 1} {𝓤 : Ura M} {𝓛 : Logic 𝓤} {K : Type 0} {Γ : List
   informs t z {P} {Q} {φ} h k = use1 𝓛 (later (given φ (raw Q))) h $ await t z $ learn t k
 
 module _ {M : Type 1} {𝓤 : Ura M} {𝓛 : Logic 𝓤} {K : Type 0} {Γ : List (Item 𝓤)} {E : Env 𝓤 𝓛.H} where
-  -- val gives the result's machine value, which is of the local's type
   open 𝓛 use {H}
 
-  pub calls_into : K → {C : Calls 𝓤 H} {Λ : Loops 𝓤 H} {q : Post 𝓤 H} → FmC 𝓤 H 𝓛.laws C → {f : Name} {xs : List Operand} {x : ℕ} {rest : Body} {vs : List Val}
+  -- val gives the result's machine value, which is of the local's type
+  pub calls_into : K → {C : Calls 𝓤 H} {Λ : Loops 𝓤 H} {q : Post 𝓤 H} → FmC 𝓤 H 𝓛.laws C → {f : Callee} {xs : List Operand} {x : ℕ} {rest : Body} {vs : List Val}
       (n : ℕ) (R : RattleType) (val : R.Denot → Val) → Tells R (Is R) (λ r. val r ∷ []) → (Z : R.Denot → SProp 𝓤)
       → Opds K 𝓛 (raw (C f vs (Yields 𝓤 H R Z)) ∷ Γ) E xs vs
       → ((r : R.Denot) → nth 𝓛 n (raw (Z r) ∷ Γ) ≡ ‵ (froom (spot_of 𝓤 H E x).0 (spot_of 𝓤 H E x).1 (spot_of 𝓤 H E x).2))
@@ -113,9 +113,9 @@ module _ {M : Type 1} {𝓤 : Ura M} {𝓛 : Logic 𝓤} {K : Type 0} {Γ : List
       subst (λ (u : Val). Seq K 𝓛 (raw (Z r) ∷ Γ) (lands C Λ E (place x []) u rest q)) (sym e) (land t (from t (stop t)) (init t n (room r) (fits r is')) $ k r is'))))
 
 module _ {M : Type 1} {𝓤 : Ura M} (𝓛 : Logic 𝓤) (n : ℕ) (κs : Lfts n) (qs : Shares n) (R : RattleType) where
-  -- what is there when a call has returned u, where E of its answer holds
   open 𝓛 use {H}
 
+  -- what is there when a call has returned u, where E of its answer holds
   abbrev pub Handed : (R.Denot → SProp 𝓤) → Val → SProp 𝓤
   Handed E u = H.⇛ (ex 𝓤 (λ (x : R.Denot). sep 𝓤 (sep 𝓤 (toks 𝓛 n κs qs) (sem 𝓛 (R.own_val x (u ∷ [])))) (E x)))
 
@@ -150,7 +150,7 @@ module _ {M : Type 1} {𝓤 : Ura M} (𝓛 : Logic 𝓤) (C : Calls 𝓤 𝓛.H)
 
   -- by its contract Q holds of its answer, and F is what else there is
   pub call_yields : (Q : R.Denot → Type 0) → ((r : Res T.signature y.0.0) (e : AtExit T y.0.0) → ent 𝓤 ((c y.0.0 y.0.3).ensures y.1 r e) (fact 𝓤 (Q r)))
-      → (F : SProp 𝓤) (f : Name) → Triple 𝓤 (C f) (Contracted 𝓛 T c) → ent 𝓤 (emp 𝓤) ((c y.0.0 y.0.3).requires y.1)
+      → (F : SProp 𝓤) (f : Callee) → Triple 𝓤 (C f) (Contracted 𝓛 T c) → ent 𝓤 (emp 𝓤) ((c y.0.0 y.0.3).requires y.1)
       → ent 𝓤 (sep 𝓤 Tokens (sep 𝓤 (sem 𝓛 (owns (types_at T.signature.params y.0.0) y.0.3 y.0.4)) F))
       (C f ((Contracted 𝓛 T c).args y) (Yields 𝓤 H R (λ r. guard 𝓤 (Q r) (sep 𝓤 Tokens F))))
   call_yields Q says F f known asked =
@@ -162,7 +162,7 @@ module _ {M : Type 1} {𝓤 : Ura M} (𝓛 : Logic 𝓤) (C : Calls 𝓤 𝓛.H)
   -- by its contract its answer is s
   pub call_answered : (s : Res T.signature y.0.0)
       → ((r : Res T.signature y.0.0) (e : AtExit T y.0.0) → ent 𝓤 ((c y.0.0 y.0.3).ensures y.1 r e) (fact 𝓤 (r ≡ s)))
-      → (vals : R.Denot → List Val) → Tells R (Is R) vals → Lawful 𝓛 R → (z : R.Denot) → s ≡ z → (F : SProp 𝓤) (f : Name)
+      → (vals : R.Denot → List Val) → Tells R (Is R) vals → Lawful 𝓛 R → (z : R.Denot) → s ≡ z → (F : SProp 𝓤) (f : Callee)
       → Triple 𝓤 (C f) (Contracted 𝓛 T c) → ent 𝓤 (emp 𝓤) ((c y.0.0 y.0.3).requires y.1)
       → ent 𝓤 (sep 𝓤 Tokens (sep 𝓤 (sem 𝓛 (owns (types_at T.signature.params y.0.0) y.0.3 y.0.4)) F))
       (C f ((Contracted 𝓛 T c).args y) (λ u. H.⇛ (guard 𝓤 (ValueIs R vals z u) (sep 𝓤 Tokens F))))

@@ -1,7 +1,7 @@
 -- Contracts of signatures with clauses: how they are met, and what follows from them.
 --     Contracted       the contract of a signature and its clauses, as a Hoare triple
 --     entering         a run meets a contract, from a walk with the parameters' machine values written out and their relations in hand
---     Ensures, with-ensures    what may be ensured in the place of what clauses ensure, and the clauses with that
+--     Ensures, with_ensures    what may be ensured in the place of what clauses ensure, and the clauses with that
 --     Follows, follows         it follows from what the clauses ensure; and then a run that meets the clauses' contract meets the one with that
 -- Assumes nothing.
 use seplogic.Ra.Ura.{Ura}

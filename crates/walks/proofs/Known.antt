@@ -2,10 +2,10 @@
 --     Known n          a slot; the machine values of a value of its type, and that they can only be those; and that they are of its MIR types
 --     uint, one_of, record_of      an unsigned integer, an enum and a struct
 --     shared, lent     a `&'j [R]` and a `&'j mut [R]`
---     slots, rows, spells, tells, passed-as, Related, typed    of a list of them, as a function's parameters are
+--     slots, rows, spells, tells, passed_as, Related, typed    of a list of them, as a function's parameters are
 --     ended            a signature with these parameters and this result, each parameter kept
 --     Value n          one whose values own nothing.        number, enum, struct       an unsigned integer, an enum and a struct
---     types_of, owned-values      of a list of values
+--     types_of, owned_values      of a list of values
 --     Parameter n      one that is a parameter, with what is had of it at exit
 --     by_value, seen, held     a value and a `&'j [R]`, of which nothing is had; and a `&'j mut [R]`, which is had at its last list
 --     knowns, stays, goes      of a list of parameters
@@ -53,8 +53,8 @@ module _ {n : ℕ} where
   one_of T L few = record { slot = plain (λ _. E.row T); vals = λ κs. EL.vals T L; tell = λ κs. EL.tells T L; lawful = λ 𝓛 κs. EL.lawful T L 𝓛 few }
 
   -- a struct
-  abbrev pub record_of_lem : (T : S.Declared) → LL.Laws T → Known n
-  record_of_lem T L = record { slot = plain (λ _. S.row T); vals = λ κs. LL.vals T L; tell = λ κs. LL.tells T L; lawful = λ 𝓛 κs. LL.lawful T L 𝓛 }
+  abbrev pub record_of : (T : S.Declared) → LL.Laws T → Known n
+  record_of T L = record { slot = plain (λ _. S.row T); vals = λ κs. LL.vals T L; tell = λ κs. LL.tells T L; lawful = λ 𝓛 κs. LL.lawful T L 𝓛 }
 
   -- a `&'j [R]`
   abbrev pub shared : (j : ℕ) → AllWithin n (j ∷ []) → RattleType → Known n
@@ -136,8 +136,8 @@ module _ {n : ℕ} where
   enum T L few plain-parts silent = record { known = one_of T L few; silent = silent; makes = λ 𝓛 κs. EL.makes T plain-parts 𝓛 }
 
   -- a struct
-  abbrev pub struct : (T : S.Declared) (L : LL.Laws T) → Plains (S.fields T) → Silent {n = n} (record_of_lem T L) → Value n
-  struct T L plain-parts silent = record { known = record_of_lem T L; silent = silent; makes = λ 𝓛 κs. LL.makes T plain-parts 𝓛 }
+  abbrev pub struct : (T : S.Declared) (L : LL.Laws T) → Plains (S.fields T) → Silent {n = n} (record_of T L) → Value n
+  struct T L plain-parts silent = record { known = record_of T L; silent = silent; makes = λ 𝓛 κs. LL.makes T plain-parts 𝓛 }
 
   -- the types of a list of them
   abbrev pub types_of : List (Value n) → List (Known n)

@@ -6,14 +6,14 @@
 --     starts           a function is entered: its locals are laid out behind the front, the parameters hold what is passed, and the others nothing
 --     frees_all        a function has returned: its locals, which stand behind the front, are freed
 --     at               a local is read
---     big-lit          a constant, whose bound a proof shows
+--     big_lit          a constant, whose bound a proof shows
 -- Assumes nothing.
 use mathlib.Core.Path.{◌≡◌, refl}
 use Prim.Native.Nat.{ℕ, zero}
 use mathlib.Core.List.{List, [], ◌∷◌, ◌++◌}
 use lib.Dec.{T}
 use seplogic.Ra.Ura.{Ura}
-use seplogic.Ra.TreeShare.{full_share}
+use base.Fraction.{full_share}
 use mir.Syntax.{Local, local, Fn, Width, int_big, copy, place}
 use mir.Val.{Val, vint, Fits, has_ty, WT}
 use base.Logic.{SProp, ent, sep, guard_i, via, comm∗, assoc∗, assoc', mono_l, mono_r}
@@ -133,9 +133,9 @@ module _ {M : Type 1} {𝓤 : Ura M} {K : Type 0} (𝓛 : Logic 𝓤) where
   frees_all t Δ E hs s = behind Δ (cells 𝓤 H E hs) (each_freed t E hs Δ s)
 
 module _ {M : Type 1} {𝓤 : Ura M} {𝓛 : Logic 𝓤} {K : Type 0} {Γ : List (Item 𝓤)} where
-  -- entry n is the local, which is read
   open 𝓛 use {H}
 
+  -- entry n is the local, which is read
   pub at : K → (n : ℕ) {E : Env 𝓤 H} {i : ℕ} {q : Share} {v : Val} → nth 𝓛 n Γ ≡ ‵ (fat q (spot_of 𝓤 H E i).0 (spot_of 𝓤 H E i).1 (spot_of 𝓤 H E i).2 v)
       → Opd K 𝓛 Γ E (copy (place i [])) v
   at t n e = load t (from t (stop t)) (look t n e)

@@ -1,7 +1,7 @@
 -- What a walk with a loop names.
---     after b          of a sequence, what stands behind its first statement: `after (after turn)` is a loop's turn behind its test
+--     behind-first b   of a sequence, what stands behind its first statement: `behind-first (behind-first turn)` is a loop's turn behind its test
 --     Upto n P         what a loop that counts up to n carries from turn to turn: the count, with P of it
---     Nearer           a later count.        nearer-wf    a loop comes to an end of them
+--     Nearer           a later count.        nearer_wf    a loop comes to an end of them
 --     Turned           what is to be shown of a turn: it ends at a later count, or the loop is left, and the rest of the function runs
 -- Assumes nothing.
 use Prim.Native.Nat.{ℕ, ◌-◌, ◌≤◌, ◌<◌}
@@ -10,7 +10,7 @@ use mathlib.Core.WellFounded.InvImage
 use mathlib.Core.WellFounded.{WellFounded}
 use lib.WfN.{lt-wf_rel}
 use seplogic.Ra.Ura.{Ura}
-use mir.Syntax.{Body, skip, seq, assign, block, loop, cond, switch, exit, return, call}
+use mir.Syntax.{Body, skip, seq, assign, block, loop, cond, switch, exit, return, call, unreachable, call_v, lend_static}
 use mir.Val.{Val}
 use base.Logic.{SProp}
 use prog.Wp.{Out, Env, Calls, Loops, Wp, after_seq, after_block, after_turn, at_return}
@@ -30,6 +30,9 @@ behind-first (switch c ms) = skip
 behind-first (exit n) = skip
 behind-first return = skip
 behind-first (call f xs d) = skip
+behind-first unreachable = skip
+behind-first (call_v f s xs d) = skip
+behind-first (lend_static d τ c) = skip
 
 module _ (n : ℕ) (P : ℕ → Type 0) where
   -- a count up to n, with P of it

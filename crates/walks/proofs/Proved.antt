@@ -10,7 +10,7 @@ use mir.Syntax.{Fn}
 use mir.Val.{Val}
 use base.Logic.{SProp, ent, sep}
 use prog.Model.{Model}
-use prog.Routine.{Name, Env}
+use prog.Routine.{Callee, Env}
 use prog.Wp.{WpFn, Closed}
 use types.Logic.{Logic}
 use contract.Lifetimes.{Lfts, Shares}
@@ -42,17 +42,16 @@ module _ {n : ℕ} (ps : List (Parameter n)) (r : Slot n) {M : Type 1} {𝓤 : U
       (run (passed_as κs (knowns ps) a) (Finished κs qs a g))
 
 module _ {n : ℕ} (ps : List (Parameter n)) (r : Slot n) {M : Type 1} {𝓤 : Ura M} (𝓛 : Logic 𝓤) (𝓜 : Model 𝓤 𝓛.H) (𝓡 : Running 𝓤 𝓛.H 𝓜) (γ : Env) where
-  -- the function of the name k
   open 𝓛 use {H}
 
-  pub proved : (c : Clauses 𝓤 (ended (knowns ps) r)) (k : Name) (e : Fn) → Closed 𝓤 H (tables 𝓤 H 𝓜 𝓡 γ).C (tables 𝓤 H 𝓜 𝓡 γ).Λ k e
+  -- the function of the name k
+  pub proved : (c : Clauses 𝓤 (ended (knowns ps) r)) (k : Callee) (e : Fn) → Closed 𝓤 H (tables 𝓤 H 𝓜 𝓡 γ).C (tables 𝓤 H 𝓜 𝓡 γ).Λ k e
       → Walked ps r 𝓛 c (WpFn 𝓤 H (tables 𝓤 H 𝓜 𝓡 γ).C (tables 𝓤 H 𝓜 𝓡 γ).Λ e)
       → Triple 𝓤 ((tables 𝓤 H 𝓜 𝓡 γ).C k) (Contracted 𝓛 (ended (knowns ps) r) c)
   unfolding tables_of
   proved c k e closed walk =
       let C = (tables 𝓤 H 𝓜 𝓡 γ).C in
       let Λ = (tables 𝓤 H 𝓜 𝓡 γ).Λ in
-      let A = 𝓛.A in
       entered 𝓤 H (Contracted 𝓛 (ended (knowns ps) r) c) C Λ k e closed
       (walk_Meets 𝓛 (ended (knowns ps) r) (stays ps) (goes 𝓛 ps) c (WpFn 𝓤 H C Λ e)
       (WpFn-mono 𝓤 H (of_model 𝓤 H 𝓜) (tables_of 𝓤 H 𝓜 (tables 𝓤 H 𝓜 𝓡 γ)) e)

@@ -1,13 +1,13 @@
 -- Formulas in a row, F₁ ∗ (F₂ ∗ (… ∗ true)), as the tokens of a function are, what its parameters own, and what is said of them at exit; and rows with one more
 -- at the end.
 --     all_of               the row of a list
---     at-end, off-end      one more at the end is joined to a row, and taken off it
---     tokens-of, owned-of, lasts-of        the lists of a function's tokens, of what its parameters own, and of what is said of them at exit
---     with-lft, with-share, with-arg, with-val     lifetimes, shares, arguments and machine values with one more at the end
+--     at_end, off_end      one more at the end is joined to a row, and taken off it
+--     tokens_of, owned_of, lasts_of        the lists of a function's tokens, of what its parameters own, and of what is said of them at exit
+--     with_lft, with_share, with_arg, with_val     lifetimes, shares, arguments and machine values with one more at the end
 --     trues                so many formulas that are true
---     enters-with          what a function has on entry becomes what a callee asks that takes one parameter more, at a lifetime of its own; the function's own last
+--     enters_with          what a function has on entry becomes what a callee asks that takes one parameter more, at a lifetime of its own; the function's own last
 --                          parameters are left out
---     comes-with           what the callee leaves is what the function has at exit, and what is said of that parameter; of the function's own last parameters nothing is said
+--     comes_with           what the callee leaves is what the function has at exit, and what is said of that parameter; of the function's own last parameters nothing is said
 -- Assumes nothing.
 use Prim.Native.Nat.{ℕ, zero, suc}
 use mathlib.Core.List.{List, [], ◌∷◌, ◌++◌}

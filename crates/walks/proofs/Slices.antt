@@ -1,6 +1,6 @@
 -- Steps for a slice in a local, as MIR has it: a struct of the pointer and of how many elements there are.
 --     member           field k of a struct in a local is read, where the local stands at n
---     lends-on         a slice is lent on, `&mut *s` or `&*s`: its pointer goes into one local, and a slice of this pointer and of as many elements into another. The
+--     lends_on         a slice is lent on, `&mut *s` or `&*s`: its pointer goes into one local, and a slice of this pointer and of as many elements into another. The
 --                      slice stands at n, and the two locals at k and j
 -- Assumes nothing.
 use mathlib.Core.Path.{◌≡◌, sym, subst, ◌∙◌}
@@ -8,7 +8,7 @@ use mathlib.Core.Option.{some}
 use mathlib.Core.List.{List, [], ◌∷◌}
 use Prim.Native.Nat.{ℕ, zero, ◌+◌}
 use seplogic.Ra.Ura.{Ura}
-use seplogic.Ra.TreeShare.{full_share}
+use base.Fraction.{full_share}
 use lib.Dec.{T}
 use mir.Fields.{get_v, set_v}
 use mir.Syntax.{Sym, Ty, ty_struct, ty_int, w64, Tys, tcons, tnil, copy, place, field, deref, addr_of, aggregate, Body, seq, assign}
@@ -36,9 +36,9 @@ abbrev Takes : {M : Type 1} (𝓤 : Ura M) (H : Heap 𝓤) → Env 𝓤 H → �
 Takes 𝓤 H E x v = T (has_ty (spot_of 𝓤 H E x).0 v) × WT v
 
 module _ {M : Type 1} {𝓤 : Ura M} {𝓛 : Logic 𝓤} {K : Type 0} {Γ : List (Item 𝓤)} where
-  -- field k of the struct at entry n is part of it
   open 𝓛 use {H}
 
+  -- field k of the struct at entry n is part of it
   reads_member : K → (n k : ℕ) {s : Share} {ν : Sym} {τs : Tys} {vs : Vals} {τ : Ty} {b o d : ℕ}
       → nth 𝓛 n Γ ≡ ‵ (fat s (ty_struct ν τs) b o (vstruct vs)) → field_at zero τs k ≡ some (τ, d) → Reads K 𝓛 Γ τ b (o + d) (get_v vs k)
   reads_member t n k {s} {ν} {τs} {vs} {τ} {b} {o} {d} e in_struct =
@@ -54,9 +54,9 @@ module _ {M : Type 1} {𝓤 : Ura M} {𝓛 : Logic 𝓤} {K : Type 0} {Γ : List
     member t n k e in_struct in_place = load t (from t (fld t in_place (stop t))) (reads_member t n k e in_struct)
 
 module _ {M : Type 1} {𝓤 : Ura M} {𝓛 : Logic 𝓤} {K : Type 0} {Γ : List (Item 𝓤)} {E : Env 𝓤 𝓛.H} where
-  -- the slice at entry n is lent on
   open 𝓛 use {H}
 
+  -- the slice at entry n is lent on
   pub lends_on : K → {C : Calls 𝓤 H} {Λ : Loops 𝓤 H} {q : Post 𝓤 H} {rest : Body} (n k j : ℕ) {i x y : ℕ} {s : Share} {τ ρ : Ty} {b o m c d : ℕ}
       → nth 𝓛 n Γ ≡ ‵ (fat s (slice_ty ρ) (spot_of 𝓤 H E i).1 (spot_of 𝓤 H E i).2 (slice_val (b, o) m))
       → field_at zero (tcons ρ (tcons (ty_int w64) tnil)) 0 ≡ some (ρ, c) → field_of (spot_of 𝓤 H E i).0 0 ≡ some (ρ, c)
