@@ -15,6 +15,7 @@ use endian_steps::read_signed;
 use refusal_rules::{Refusal, SHORT_OUTPUT, SizeAnswer};
 
 // Fills an output with signed words, one a turn.
+#[tactic(none)]
 fn words_singly(order: Order, file: &[u8], at: usize, step: usize, out: &mut [i32])
     requires { (i : ℕ) → i < length out.old → at + i * step + 4 ≤ length file.now }
     ensures { out.new ≡ words_at order file.now at step (length out.old) }
@@ -29,6 +30,7 @@ fn words_singly(order: Order, file: &[u8], at: usize, step: usize, out: &mut [i3
 }
 
 // Fills an output of four places with signed words in big order.
+#[tactic(none)]
 fn four_words(file: &[u8], at: usize, step: usize, out: &mut [i32])
     requires { (length out.old ≡ 4) × (at + 3 * step + 4 ≤ length file.now) }
     ensures { out.new ≡ words_at Big file.now at step 4 }

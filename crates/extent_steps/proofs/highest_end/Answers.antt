@@ -1,0 +1,20 @@
+-- `extent_steps::highest_end` meets its contract: the highest end so far is that of the slots before the one that the loop is at.
+-- Assumes nothing.
+use mathlib.Core.Path.{◌≡◌, refl, ap, ◌∙◌}
+use mathlib.Core.Logic.{⊎_elim}
+use Prim.Native.Nat.{ℕ, ◌+◌, ◌-◌, ◌≤◌}
+use native.Mathlib.Omega.{arith}
+use lib.ListN.{length}
+use Rattle.endian_rules.specs.Words.{word_at}
+use Rattle.extent_rules.specs.Stretches.{extent_end, highest_end}
+use Rattle.extent_rules.proofs.Slots.{slot-inside, highest_taken, highest_left}
+use Rattle.extent_steps.proofs.highest_end.Goals as goal
+
+pub overflow_add-end : goal.overflow_add-end
+overflow_add-end c =
+    let i = c.loop-k in
+    let a = c.args in
+    let w = word_at a.order a.file.now in
+    let inside = slot-inside w (length a.file.now) i.k c.requires
+    (omega (arith, c.loop-k-test.true, i.invariant.1.0)) in
+    omega (arith, inside, ap extent_end c.slot_extent-grid.ensures)

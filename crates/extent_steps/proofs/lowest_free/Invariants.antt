@@ -1,0 +1,23 @@
+-- `extent_steps::lowest_free` meets its contract: the words from p up to the one that the loop is at are not free, and each turn goes on behind the grid that
+-- has that word.
+-- Assumes nothing.
+use mathlib.Core.Path.{◌≡◌, sym}
+use mathlib.Core.Bool.{true, false}
+use Prim.Native.Nat.{ℕ, ◌-◌, ◌/◌, ◌≤◌, ◌<◌}
+use native.Mathlib.Decide.{dec_lt}
+use native.Mathlib.Omega.{arith}
+use lib.ListN.{length}
+use Rattle.lists.proofs.Lowest.{lowest_exactly}
+use Rattle.endian_rules.specs.Words.{word_at}
+use Rattle.extent_rules.specs.Stretches.{is_free}
+use Rattle.extent_rules.specs.Steps.{past_grid}
+use Rattle.extent_rules.proofs.Slots.{accepted_slots, PastIs, past_is}
+use Rattle.extent_steps.proofs.lowest_free.Given as goal
+
+abbrev pub invariant-loop-at : goal.invariant-loop-at
+invariant-loop-at l =
+    (l.p ≤ l.at) × ((l.at ≤ length l.file / 4) × ((l.past ≡ past_grid (word_at l.order l.file) l.at (word_at l.order l.file 10)) ×
+    ((q : ℕ) → l.p ≤ q → q < l.at → is_free (word_at l.order l.file) q ≡ false)))
+
+abbrev pub decreases-loop-at : goal.decreases-loop-at
+decreases-loop-at l = length l.file / 4 - l.at

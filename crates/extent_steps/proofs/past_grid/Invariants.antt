@@ -1,0 +1,18 @@
+-- `extent_steps::past_grid` meets its contract: the end so far is that of a grid of the slots before the one that the loop is at.
+-- Assumes nothing.
+use mathlib.Core.Path.{◌≡◌, refl, sym, ap, ◌∙◌}
+use mathlib.Core.Logic.{⊎_elim}
+use Prim.Native.Nat.{ℕ, ◌-◌, ◌≤◌}
+use native.Mathlib.Omega.{arith}
+use lib.ListN.{length}
+use Rattle.endian_rules.specs.Words.{word_at}
+use Rattle.extent_rules.specs.Stretches.{extent_end}
+use Rattle.extent_rules.specs.Steps.{past_grid}
+use Rattle.extent_rules.proofs.Slots.{slot-inside, past_taken, past_left}
+use Rattle.extent_steps.proofs.past_grid.Given as goal
+
+abbrev pub invariant-loop-k : goal.invariant-loop-k
+invariant-loop-k l = (l.k ≤ l.n) × ((l.n ≡ word_at l.order l.file 10) × (l.past ≡ past_grid (word_at l.order l.file) l.p l.k))
+
+abbrev pub decreases-loop-k : goal.decreases-loop-k
+decreases-loop-k l = l.n - l.k

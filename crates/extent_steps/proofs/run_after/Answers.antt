@@ -1,0 +1,25 @@
+-- `extent_steps::run_after` meets its contract: the run begins at the lowest free word, and ends where the next grid begins.
+-- Assumes nothing.
+use Prim.Native.Nat.{◌+◌, ◌/◌}
+use lib.ListN.{length}
+use borrow.Author.Rules.{rules}
+use Rattle.endian_rules.specs.Words.{word_at}
+use Rattle.extent_rules.proofs.Slots.{accepted_slots, run_found}
+use Rattle.extent_steps.proofs.run_after.Goals as goal
+
+pub next_grid-end-requires : goal.next_grid-end-requires
+next_grid-end-requires c = let s = c in accepted_slots s.args.order s.args.file.now s.requires.0
+
+pub overflow_sub-result : goal.overflow_sub-result
+overflow_sub-result c =
+    let s = c in
+    let f = s.args.file.now in
+    let e = s.args.e in
+    (run_found (word_at s.args.order f) (length f / 4) (e.start + e.length) _ _ s.requires.1 c.lowest_free-start.ensures c.next_grid-end.ensures).0
+
+pub returns : goal.returns
+returns c =
+    let s = c in
+    let f = s.args.file.now in
+    let e = s.args.e in
+    (run_found (word_at s.args.order f) (length f / 4) (e.start + e.length) _ _ s.requires.1 c.lowest_free-start.ensures c.next_grid-end.ensures).1
