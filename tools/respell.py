@@ -168,6 +168,8 @@ def main(argv):
             targets = {new.get(x, y) for x in olds}
             if targets == {y}:
                 continue
+            if is_rt and (all("-" in x for x in olds) or not any("/specs/" in p for x in olds for p in places[x])):
+                continue
             if len(targets) == 1:
                 turned[y] = next(iter(targets))
                 continue

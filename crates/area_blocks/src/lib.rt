@@ -9,7 +9,7 @@ ghost use Rattle.area_part_rules.specs.Blocks.{optional_block_of, block_of, bloc
 
 use area_places::data_length;
 use area_rules::{AreaLayout, AreaOpening, Block};
-use fresh_layout::area_of_lem;
+use fresh_layout::area_of;
 use layout_rules::Layout;
 use refusal_rules::{ABSENT, Refusal, SizeAnswer};
 use span_rules::{Span, SpanAnswer};
@@ -118,7 +118,7 @@ fn span_of(l: AreaLayout, block: Block) -> SpanAnswer
 pub fn block_span(file: &[u8], layout: Layout, block: Block) -> SpanAnswer
     ensures { span_says result ≡ block_span file.now layout block }
 {
-    match area_of_lem(file, layout) {
+    match area_of(file, layout) {
         AreaOpening::Refused(refusal) => SpanAnswer::Refused(refusal),
         AreaOpening::Opened(l) => span_of(l, block),
     }

@@ -11,7 +11,7 @@ use area_places::sample_place;
 use area_rules::{AreaLayout, AreaOpening, SlotOrBand};
 use bands::slot_of;
 use copy_rules::Strided;
-use fresh_layout::area_of_lem;
+use fresh_layout::area_of;
 use layout_rules::Layout;
 use number_copy_steps::copy_numbers;
 use refusal_rules::{NumberAnswer, PlaceAnswer, SizeAnswer};
@@ -21,7 +21,7 @@ use refusal_rules::{NumberAnswer, PlaceAnswer, SizeAnswer};
 pub fn band_slot(file: &[u8], layout: Layout, band: u32) -> NumberAnswer
     ensures { number_says result ≡ band_slot_in file.now layout band }
 {
-    match area_of_lem(file, layout) {
+    match area_of(file, layout) {
         AreaOpening::Refused(refusal) => NumberAnswer::Refused(refusal),
         AreaOpening::Opened(l) => slot_of(l, SlotOrBand::Band(band)),
     }
@@ -64,7 +64,7 @@ pub fn copy_line(
 ) -> SizeAnswer
     ensures { (size_says result, out.new) ≡ copy_line file.now layout line which out.old }
 {
-    match area_of_lem(file, layout) {
+    match area_of(file, layout) {
         AreaOpening::Refused(refusal) => SizeAnswer::Refused(refusal),
         AreaOpening::Opened(l) => copy_line_in(file, l, line, which, out),
     }

@@ -10,7 +10,7 @@ ghost use Rattle.area_part_rules.specs.Regions.{region_of, region_span};
 
 use area_places::line_start;
 use area_rules::{AreaLayout, AreaOpening, Region};
-use fresh_layout::area_of_lem;
+use fresh_layout::area_of;
 use layout_rules::Layout;
 use prefix_lengths::validity_length;
 use refusal::check;
@@ -96,7 +96,7 @@ fn region_of(l: AreaLayout, line: u32, region: Region) -> SpanAnswer
 pub fn region_span(file: &[u8], layout: Layout, line: u32, region: Region) -> SpanAnswer
     ensures { span_says result ≡ region_span file.now layout line region }
 {
-    match area_of_lem(file, layout) {
+    match area_of(file, layout) {
         AreaOpening::Refused(refusal) => SpanAnswer::Refused(refusal),
         AreaOpening::Opened(l) => region_of(l, line, region),
     }

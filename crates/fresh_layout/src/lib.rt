@@ -36,7 +36,7 @@ fn as_area(layout: Layout) -> AreaOpening
 }
 
 // The AREA layout that a call asks for. Refused with 9 where the layout is stale, and then with 7 where it is of another kind.
-pub fn area_of_lem(file: &[u8], layout: Layout) -> AreaOpening
+pub fn area_of(file: &[u8], layout: Layout) -> AreaOpening
     ensures { area_says result ≡ area_of file.now layout }
 {
     if is_fresh(file, layout) {

@@ -1,25 +1,36 @@
 // The listing of an AREA file, written to standard output.
 #![tactic(auto)]
 
-ghost use Rattle.std.specs.Prelude.{◌≡◌, length};
+ghost use Rattle.std.specs.Prelude.{◌≡◌, IfOk, OnOk, length};
+ghost use Rattle.std.specs.Io.KnownBytes.{Appends};
 ghost use Rattle.listing_rules.specs.Page.{listing_text};
 
-use libc::STDOUT_FILENO;
 use listing_text::list_text;
 use refusal_rules::SizeAnswer;
+use std::io;
+use std::io::Write;
 
-// Writes the listing of an AREA file to standard output, and answers how many bytes it has handed to the write: all of the listing's. A write that fails is
-// left at that: the program has no exit status.
-pub fn print_listing(file: &[u8]) -> usize
-    ensures { result ≡ length (listing_text file.now) }
+// Writes the listing of an AREA file to a writer, and answers how many bytes it has handed to the write: all of the listing's. A write that fails is the error.
+fn write_listing<W: Write>(out: &mut W, file: &[u8]) -> io::Result<usize>
+    ensures count { IfOk result (λ n. n ≡ length (listing_text file.now)) }
+    ensures bytes { OnOk result (Appends (W.contents out.old) (W.contents out.new)
+        (listing_text file.now)) }
 {
     let mut text = [0u8; 512];
     match list_text(file, &mut text) {
         SizeAnswer::Value(count) => {
             let listing = &text[..count];
-            io::write_all(STDOUT_FILENO, listing);
-            listing.len()
+            out.write_all(listing)?;
+            Ok(listing.len())
         }
-        SizeAnswer::Refused(_) => 0,
+        SizeAnswer::Refused(_) => Ok(0),
     }
+}
+
+// Writes the listing of an AREA file to standard output, and answers how many bytes it has handed to the write: all of the listing's. A write that fails is the
+// error, and standard output may then have the first bytes of the listing.
+pub fn print_listing(rt: &impl Print, file: &[u8]) -> io::Result<usize>
+    ensures { IfOk result (λ n. n ≡ length (listing_text file.now)) }
+{
+    write_listing(&mut io::writer(rt), file)
 }

@@ -5,104 +5,99 @@ use extent_rules::Extent;
 use grid_update_rules::AddAnswer;
 use grid_updates_by_value::{PLACES, SHORT_PLACES};
 use layout_rules::{Layout, Opening};
-use libc::STDOUT_FILENO;
 use refusal_rules::{NumberAnswer, Refusal, SizeAnswer, WordAnswer};
 use span_rules::SpanAnswer;
+use std::io;
 use store_rules::StoreAnswer;
 
 // The mark before the first number.
-pub const FIRST: u8 = 58;
+pub const FIRST: char = ':';
 
 // The mark before each number behind the first.
-pub const NEXT: u8 = 44;
+pub const NEXT: char = ',';
 
 // The mark before the length of a stretch, behind its start.
-const PLUS: u8 = 43;
+const PLUS: char = '+';
 
 // The mark before the value of a byte, behind its index.
-pub const EQUALS: u8 = 61;
+pub const EQUALS: char = '=';
 
 // Writes text.
-pub fn print(text: &[u8]) {
-    io::write_all(STDOUT_FILENO, text);
+pub fn print(rt: &impl Print, text: &[u8]) -> io::Result<()> {
+    rt.write_all(text)
 }
 
 // Ends a line.
-pub fn end_line() {
-    print(b"\n");
+pub fn end_line(rt: &impl Print) -> io::Result<()> {
+    println!(rt)
 }
 
 // Writes a mark, a space and a number.
-pub fn say(mark: u8, n: u64) {
-    let text = [mark, 32];
-    io::write_all(STDOUT_FILENO, &text);
-    io::print_decimal(STDOUT_FILENO, n);
+pub fn say(rt: &impl Print, mark: char, n: u64) -> io::Result<()> {
+    print!(rt; "{mark} {n}")
 }
 
 // Writes a mark, a space, a minus sign and a number.
-fn say_minus(mark: u8, n: u64) {
-    let text = [mark, 32, 45];
-    io::write_all(STDOUT_FILENO, &text);
-    io::print_decimal(STDOUT_FILENO, n);
+fn say_minus(rt: &impl Print, mark: char, n: u64) -> io::Result<()> {
+    print!(rt; "{mark} -{n}")
 }
 
 // Writes a mark and a signed word.
-pub fn say_word(mark: u8, v: i32) {
+pub fn say_word(rt: &impl Print, mark: char, v: i32) -> io::Result<()> {
     let n = unsigned(v);
     if n < 2147483648 {
-        say(mark, n as u64);
+        say(rt, mark, n as u64)
     } else {
-        say_minus(mark, 4294967296 - n as u64);
+        say_minus(rt, mark, 4294967296 - n as u64)
     }
 }
 
 // Writes three numbers.
-fn say_three(a: u32, b: u32, c: u32) {
-    say(FIRST, a as u64);
-    say(NEXT, b as u64);
-    say(NEXT, c as u64);
+fn say_three(rt: &impl Print, a: u32, b: u32, c: u32) -> io::Result<()> {
+    say(rt, FIRST, a as u64)?;
+    say(rt, NEXT, b as u64)?;
+    say(rt, NEXT, c as u64)
 }
 
 // Writes a refusal: its number and place.
-fn say_refusal(refusal: Refusal) {
-    print(b": refused ");
-    io::print_decimal(STDOUT_FILENO, refusal.number as u64);
-    print(b" at ");
-    io::print_decimal(STDOUT_FILENO, refusal.place);
+fn say_refusal(rt: &impl Print, refusal: Refusal) -> io::Result<()> {
+    let number = refusal.number;
+    let place = refusal.place;
+    print!(rt; ": refused {number} at {place}")
 }
 
 // Writes an unsigned number, or the refusal.
-pub fn say_number(answer: NumberAnswer) {
+pub fn say_number(rt: &impl Print, answer: NumberAnswer) -> io::Result<()> {
     match answer {
-        NumberAnswer::Value(n) => say(FIRST, n as u64),
-        NumberAnswer::Refused(refusal) => say_refusal(refusal),
+        NumberAnswer::Value(n) => say(rt, FIRST, n as u64),
+        NumberAnswer::Refused(refusal) => say_refusal(rt, refusal),
     }
 }
 
 // Writes a signed word, or the refusal.
-pub fn say_signed(answer: WordAnswer) {
+pub fn say_signed(rt: &impl Print, answer: WordAnswer) -> io::Result<()> {
     match answer {
-        WordAnswer::Value(v) => say_word(FIRST, v),
-        WordAnswer::Refused(refusal) => say_refusal(refusal),
+        WordAnswer::Value(v) => say_word(rt, FIRST, v),
+        WordAnswer::Refused(refusal) => say_refusal(rt, refusal),
     }
 }
 
 // Writes a size, as how many places a copy wrote, or the refusal.
-pub fn say_size(answer: SizeAnswer) {
+pub fn say_size(rt: &impl Print, answer: SizeAnswer) -> io::Result<()> {
     match answer {
-        SizeAnswer::Value(n) => say(FIRST, n as u64),
-        SizeAnswer::Refused(refusal) => say_refusal(refusal),
+        SizeAnswer::Value(n) => say(rt, FIRST, n as u64),
+        SizeAnswer::Refused(refusal) => say_refusal(rt, refusal),
     }
 }
 
 // Writes the start and the length of a part of the file, or the refusal.
-pub fn say_span(answer: SpanAnswer) {
+pub fn say_span(rt: &impl Print, answer: SpanAnswer) -> io::Result<()> {
     match answer {
         SpanAnswer::At(span) => {
-            say(FIRST, span.start as u64);
-            say(NEXT, span.length as u64);
+            say(rt, FIRST, span.start as u64)?;
+            say(rt, NEXT, span.length as u64)
         }
-        SpanAnswer::Refused(refusal) => say_refusal(refusal),
+        SpanAnswer::Refused(refusal) => say_refusal(rt, refusal),
     }
 }
 
@@ -112,13 +107,14 @@ fn wide(byte: u8) -> u64 {
 }
 
 // Writes of bytes that are handed back how many they are, the first and the last.
-pub fn say_ends(bytes: &[u8]) {
+pub fn say_ends(rt: &impl Print, bytes: &[u8]) -> io::Result<()> {
     let length = bytes.len();
-    say(NEXT, length as u64);
+    say(rt, NEXT, length as u64)?;
     if 0 < length {
-        say(NEXT, wide(bytes[0]));
-        say(NEXT, wide(bytes[length - 1]));
+        say(rt, NEXT, wide(bytes[0]))?;
+        say(rt, NEXT, wide(bytes[length - 1]))?;
     }
+    Ok(())
 }
 
 // A number of 32 bits as one of 64.
@@ -127,101 +123,99 @@ fn wider(n: u32) -> u64 {
 }
 
 // Writes each place of an output of unsigned numbers.
-pub fn say_numbers(out: &[u32]) {
-    let mut i = 0;
-    while i < out.len() {
-        say(NEXT, wider(out[i]));
-        i += 1;
+pub fn say_numbers(rt: &impl Print, out: &[u32]) -> io::Result<()> {
+    for n in out {
+        say(rt, NEXT, wider(*n))?;
     }
+    Ok(())
 }
 
 // Writes each place of an output of signed words.
-pub fn say_words(out: &[i32]) {
-    let mut i = 0;
-    while i < out.len() {
-        say_word(NEXT, out[i]);
-        i += 1;
+pub fn say_words(rt: &impl Print, out: &[i32]) -> io::Result<()> {
+    for v in out {
+        say_word(rt, NEXT, *v)?;
     }
+    Ok(())
 }
 
 // Writes that a store was made, or the refusal.
-pub fn say_store(answer: StoreAnswer) {
+pub fn say_store(rt: &impl Print, answer: StoreAnswer) -> io::Result<()> {
     match answer {
-        StoreAnswer::Done => print(b": stored"),
-        StoreAnswer::Refused(refusal) => say_refusal(refusal),
+        StoreAnswer::Done => print(rt, b": stored"),
+        StoreAnswer::Refused(refusal) => say_refusal(rt, refusal),
     }
 }
 
 // Writes a place of a table: its start and its length.
-fn say_place(place: Extent) {
-    say(NEXT, place.start as u64);
-    say(PLUS, place.length as u64);
+fn say_place(rt: &impl Print, place: Extent) -> io::Result<()> {
+    say(rt, NEXT, place.start as u64)?;
+    say(rt, PLUS, place.length as u64)
 }
 
 // Writes the start and the length of a stretch, where it is not empty.
-fn say_stretch(stretch: Extent) {
+fn say_stretch(rt: &impl Print, stretch: Extent) -> io::Result<()> {
     if 0 < stretch.length {
-        say_place(stretch);
+        say_place(rt, stretch)?;
     }
+    Ok(())
 }
 
 // Writes each stretch of a table that is not empty.
-pub fn say_table(table: [Extent; PLACES]) {
-    let mut i = 0;
-    while i < PLACES {
-        say_stretch(table[i]);
-        i += 1;
+pub fn say_table(rt: &impl Print, table: [Extent; PLACES]) -> io::Result<()> {
+    for stretch in &table {
+        say_stretch(rt, *stretch)?;
     }
+    Ok(())
 }
 
 // Writes each place of a short table.
-pub fn say_places(table: [Extent; SHORT_PLACES]) {
-    say_place(table[0]);
-    say_place(table[1]);
-    say_place(table[2]);
-    say_place(table[3]);
+pub fn say_places(rt: &impl Print, table: [Extent; SHORT_PLACES]) -> io::Result<()> {
+    say_place(rt, table[0])?;
+    say_place(rt, table[1])?;
+    say_place(rt, table[2])?;
+    say_place(rt, table[3])
 }
 
 // Writes the number and the address of a grid that was added and how many free stretches there are, or the refusal.
-pub fn say_added(answer: AddAnswer) {
+pub fn say_added(rt: &impl Print, answer: AddAnswer) -> io::Result<()> {
     match answer {
         AddAnswer::Done(added) => {
-            say(FIRST, added.number as u64);
-            say(NEXT, added.address as u64);
-            say(NEXT, added.stretches as u64);
+            say(rt, FIRST, added.number as u64)?;
+            say(rt, NEXT, added.address as u64)?;
+            say(rt, NEXT, added.stretches as u64)
         }
-        AddAnswer::Refused(refusal) => say_refusal(refusal),
+        AddAnswer::Refused(refusal) => say_refusal(rt, refusal),
     }
 }
 
 // Writes year, month and day, or the refusal.
-pub fn say_date(answer: DateAnswer) {
+pub fn say_date(rt: &impl Print, answer: DateAnswer) -> io::Result<()> {
     match answer {
-        DateAnswer::On(date) => say_three(date.year, date.month, date.day),
-        DateAnswer::Refused(refusal) => say_refusal(refusal),
+        DateAnswer::On(date) => say_three(rt, date.year, date.month, date.day),
+        DateAnswer::Refused(refusal) => say_refusal(rt, refusal),
     }
 }
 
 // Writes hours, minutes and seconds, or the refusal.
-pub fn say_time(answer: TimeAnswer) {
+pub fn say_time(rt: &impl Print, answer: TimeAnswer) -> io::Result<()> {
     match answer {
-        TimeAnswer::At(time) => say_three(time.hours, time.minutes, time.seconds),
-        TimeAnswer::Refused(refusal) => say_refusal(refusal),
+        TimeAnswer::At(time) => say_three(rt, time.hours, time.minutes, time.seconds),
+        TimeAnswer::Refused(refusal) => say_refusal(rt, refusal),
     }
 }
 
 // Writes offset, rows and columns of a grid that was opened, and of another file that it was opened.
-fn say_layout(layout: Layout) {
+fn say_layout(rt: &impl Print, layout: Layout) -> io::Result<()> {
     match layout {
-        Layout::Grid(grid) => say_three(grid.offset, grid.rows, grid.columns),
-        _ => print(b": opened"),
+        Layout::Grid(grid) => say_three(rt, grid.offset, grid.rows, grid.columns),
+        _ => print(rt, b": opened"),
     }
 }
 
 // Writes what an opening gives, or the refusal.
-pub fn say_opening(answer: Opening) {
+pub fn say_opening(rt: &impl Print, answer: Opening) -> io::Result<()> {
     match answer {
-        Opening::Opened(layout) => say_layout(layout),
-        Opening::Refused(refusal) => say_refusal(refusal),
+        Opening::Opened(layout) => say_layout(rt, layout),
+        Opening::Refused(refusal) => say_refusal(rt, refusal),
     }
 }

@@ -16,6 +16,7 @@ use md_keys::find_key;
 use md_records::copy_record;
 use reads::{read_field, read_point, read_sample};
 use refusal_rules::SizeAnswer;
+use std::io;
 
 // The word `sample LINE ELEMENT SLOT`, the first of the words that read.
 pub const SAMPLE: u32 = 0;
@@ -59,7 +60,7 @@ const DOCUMENTATION: u32 = 12;
 // The word `calibration LINE`.
 const CALIBRATION: u32 = 13;
 
-// The word `band_list LINE`.
+// The word `band-list LINE`.
 const BAND_LIST: u32 = 14;
 
 // The word `padding LINE`.
@@ -77,10 +78,10 @@ const FIELD: u32 = 18;
 // The word `key NUMBER BYTES`: the name is the first bytes of the four bytes of a number in big order with four zeros behind them.
 const KEY: u32 = 19;
 
-// The word `by_columns_lem PLACES`.
+// The word `by-columns PLACES`.
 const BY_COLUMNS: u32 = 20;
 
-// The word `by_rows_lem PLACES`. `record PLACES ROW COLUMN` has the next, and is the last word that reads.
+// The word `by-rows PLACES`. `record PLACES ROW COLUMN` has the next, and is the last word that reads.
 const BY_ROWS: u32 = 21;
 
 // The word `store-sample LINE ELEMENT SLOT NUMBER`, the first word that stores.
@@ -100,17 +101,33 @@ pub fn slot_or_band(call: u32, k: u32) -> SlotOrBand {
 }
 
 // Copies a slot or band of a line into the first n places of an output, and writes what came back and the whole output. Does nothing where the output has fewer places.
-fn ask_line(file: &[u8], layout: Layout, line: u32, which: SlotOrBand, n: usize, out: &mut [u32]) {
+fn ask_line(
+    rt: &impl Print,
+    file: &[u8],
+    layout: Layout,
+    line: u32,
+    which: SlotOrBand,
+    n: usize,
+    out: &mut [u32],
+) -> io::Result<()> {
     if n <= out.len() {
-        say_size(copy_line(file, layout, line, which, &mut out[0..n]));
-        say_numbers(out);
+        say_size(rt, copy_line(file, layout, line, which, &mut out[0..n]))?;
+        say_numbers(rt, out)?;
     }
+    Ok(())
 }
 
 // Copies a slot or band of a line into the first n of 8 places that each hold 9999.
-fn ask_line_of(file: &[u8], layout: Layout, line: u32, which: SlotOrBand, n: u32) {
+fn ask_line_of(
+    rt: &impl Print,
+    file: &[u8],
+    layout: Layout,
+    line: u32,
+    which: SlotOrBand,
+    n: u32,
+) -> io::Result<()> {
     let mut out = [9999u32; 8];
-    ask_line(file, layout, line, which, n as usize, &mut out);
+    ask_line(rt, file, layout, line, which, n as usize, &mut out)
 }
 
 // The block of a word.
@@ -126,9 +143,9 @@ fn block_named(call: u32) -> Block {
 }
 
 // Asks where a block lies, and for its bytes.
-fn ask_block(file: &[u8], layout: Layout, block: Block) {
-    say_span(block_span(file, layout, block));
-    say_ends(block_bytes(file, layout, block));
+fn ask_block(rt: &impl Print, file: &[u8], layout: Layout, block: Block) -> io::Result<()> {
+    say_span(rt, block_span(file, layout, block))?;
+    say_ends(rt, block_bytes(file, layout, block))
 }
 
 // The region of a word.
@@ -143,46 +160,50 @@ fn region_named(call: u32) -> Region {
 }
 
 // Asks where a region of a line's prefix lies, and for its bytes.
-fn ask_region(file: &[u8], layout: Layout, line: u32, region: Region) {
-    say_span(region_span(file, layout, line, region));
-    say_ends(region_bytes(file, layout, line, region));
+fn ask_region(
+    rt: &impl Print,
+    file: &[u8],
+    layout: Layout,
+    line: u32,
+    region: Region,
+) -> io::Result<()> {
+    say_span(rt, region_span(file, layout, line, region))?;
+    say_ends(rt, region_bytes(file, layout, line, region))
 }
 
 // Asks the call of a word that reads an AREA file, and writes what came back.
-fn ask_area(file: &[u8], layout: Layout, call: u32, n: Numbers) {
+fn ask_area(rt: &impl Print, file: &[u8], layout: Layout, call: u32, n: Numbers) -> io::Result<()> {
     match call {
-        SAMPLE..=BAND_SAMPLE => say_number(read_sample(
-            file,
-            layout,
-            n.a,
-            n.b,
-            slot_or_band(call, n.c),
-        )),
-        LINE..=BAND_LINE => ask_line_of(file, layout, n.a, slot_or_band(call, n.b), n.c),
-        BAND_SLOT => say_number(band_slot(file, layout, n.a)),
-        DIR..=AUDIT => ask_block(file, layout, block_named(call)),
-        _ => ask_region(file, layout, n.a, region_named(call)),
+        SAMPLE..=BAND_SAMPLE => say_number(
+            rt,
+            read_sample(file, layout, n.a, n.b, slot_or_band(call, n.c)),
+        ),
+        LINE..=BAND_LINE => ask_line_of(rt, file, layout, n.a, slot_or_band(call, n.b), n.c),
+        BAND_SLOT => say_number(rt, band_slot(file, layout, n.a)),
+        DIR..=AUDIT => ask_block(rt, file, layout, block_named(call)),
+        _ => ask_region(rt, file, layout, n.a, region_named(call)),
     }
 }
 
 // Asks where the header of a grid lies, and for its bytes.
-fn ask_header(file: &[u8], layout: Layout) {
-    say_span(header_span(file, layout));
-    say_ends(header_bytes(file, layout));
+fn ask_header(rt: &impl Print, file: &[u8], layout: Layout) -> io::Result<()> {
+    say_span(rt, header_span(file, layout))?;
+    say_ends(rt, header_bytes(file, layout))
 }
 
 // Finds a key by the first n bytes of a name. Does nothing where the name has fewer.
-fn ask_key(file: &[u8], layout: Layout, name: &[u8], n: usize) {
+fn ask_key(rt: &impl Print, file: &[u8], layout: Layout, name: &[u8], n: usize) -> io::Result<()> {
     if n <= name.len() {
-        say_number(find_key(file, layout, &name[0..n]));
+        say_number(rt, find_key(file, layout, &name[0..n]))?;
     }
+    Ok(())
 }
 
 // Finds a key by the first n bytes of a name that is the four bytes of a number in big order with four zeros behind them.
-fn ask_key_of(file: &[u8], layout: Layout, number: u32, n: u32) {
+fn ask_key_of(rt: &impl Print, file: &[u8], layout: Layout, number: u32, n: u32) -> io::Result<()> {
     let mut name = [0u8; 8];
     write_number(Order::Big, 4, &mut name, 0, number);
-    ask_key(file, layout, &name, n as usize);
+    ask_key(rt, file, layout, &name, n as usize)
 }
 
 // Copies a grid, by columns or by rows, or the record of a row and a column.
@@ -203,28 +224,45 @@ fn copy_words(
 
 // Copies a grid or a record into the first places of an output, as many as the first number says, and writes what came back and the whole output. Does nothing where the
 // output has fewer places.
-fn ask_copy(file: &[u8], layout: Layout, call: u32, n: Numbers, out: &mut [i32]) {
+fn ask_copy(
+    rt: &impl Print,
+    file: &[u8],
+    layout: Layout,
+    call: u32,
+    n: Numbers,
+    out: &mut [i32],
+) -> io::Result<()> {
     let end = n.a as usize;
     if end <= out.len() {
-        say_size(copy_words(file, layout, call, n.b, n.c, &mut out[0..end]));
-        say_words(out);
+        say_size(
+            rt,
+            copy_words(file, layout, call, n.b, n.c, &mut out[0..end]),
+        )?;
+        say_words(rt, out)?;
     }
+    Ok(())
 }
 
 // Copies a grid or a record into the first of 8 places that each hold 9999.
-fn ask_copy_of(file: &[u8], layout: Layout, call: u32, n: Numbers) {
+fn ask_copy_of(
+    rt: &impl Print,
+    file: &[u8],
+    layout: Layout,
+    call: u32,
+    n: Numbers,
+) -> io::Result<()> {
     let mut out = [9999i32; 8];
-    ask_copy(file, layout, call, n, &mut out);
+    ask_copy(rt, file, layout, call, n, &mut out)
 }
 
 // Asks the call of a word that reads, and writes what came back.
-pub fn ask(file: &[u8], layout: Layout, call: u32, n: Numbers) {
+pub fn ask(rt: &impl Print, file: &[u8], layout: Layout, call: u32, n: Numbers) -> io::Result<()> {
     match call {
-        SAMPLE..=PADDING => ask_area(file, layout, call, n),
-        POINT => say_signed(read_point(file, layout, n.a, n.b)),
-        HEADER => ask_header(file, layout),
-        FIELD => say_signed(read_field(file, layout, n.a, n.b, n.c)),
-        KEY => ask_key_of(file, layout, n.a, n.b),
-        _ => ask_copy_of(file, layout, call, n),
+        SAMPLE..=PADDING => ask_area(rt, file, layout, call, n),
+        POINT => say_signed(rt, read_point(file, layout, n.a, n.b)),
+        HEADER => ask_header(rt, file, layout),
+        FIELD => say_signed(rt, read_field(file, layout, n.a, n.b, n.c)),
+        KEY => ask_key_of(rt, file, layout, n.a, n.b),
+        _ => ask_copy_of(rt, file, layout, call, n),
     }
 }

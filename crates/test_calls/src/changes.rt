@@ -13,6 +13,7 @@ use grid_updates_by_value::{
     add_with_table, delete_with_short_table, delete_with_table, free_stretches_with_table,
 };
 use layout_rules::Layout;
+use std::io;
 use stores::{store_field, store_point, store_sample};
 
 // The word `store-point ROW COLUMN NUMBER`. `store-field ROW COLUMN POSITION NUMBER` has the next number, and is the last word that stores.
@@ -25,37 +26,39 @@ pub const ADD: u32 = 28;
 pub const ADD_SHORT: u32 = 29;
 
 // Stores a number, with a layout, and writes what came back.
-pub fn store_value(file: &mut [u8], layout: Layout, call: u32, n: Numbers) {
+pub fn store_value(
+    rt: &impl Print,
+    file: &mut [u8],
+    layout: Layout,
+    call: u32,
+    n: Numbers,
+) -> io::Result<()> {
     match call {
-        STORE_SAMPLE..=STORE_BAND => say_store(store_sample(
-            file,
-            layout,
-            n.a,
-            n.b,
-            slot_or_band(call, n.c),
-            n.d,
-        )),
-        STORE_POINT => say_store(store_point(file, layout, n.a, n.b, signed(n.c))),
-        _ => say_store(store_field(file, layout, n.a, n.b, n.c, signed(n.d))),
+        STORE_SAMPLE..=STORE_BAND => say_store(
+            rt,
+            store_sample(file, layout, n.a, n.b, slot_or_band(call, n.c), n.d),
+        ),
+        STORE_POINT => say_store(rt, store_point(file, layout, n.a, n.b, signed(n.c))),
+        _ => say_store(rt, store_field(file, layout, n.a, n.b, n.c, signed(n.d))),
     }
 }
 
 // Writes what telling the free stretches or deleting a grid answers: how many free stretches there are, and each of them.
-fn say_stretches(stretches: StretchTable) {
+fn say_stretches(rt: &impl Print, stretches: StretchTable) -> io::Result<()> {
     let answer = stretches.answer;
     let table = stretches.table;
-    say_size(answer);
-    say_table(table);
+    say_size(rt, answer)?;
+    say_table(rt, table)
 }
 
 // Tells the free stretches: `stretches`.
-pub fn tell_stretches(file: &[u8], order: Order) {
-    say_stretches(free_stretches_with_table(file, order));
+pub fn tell_stretches(rt: &impl Print, file: &[u8], order: Order) -> io::Result<()> {
+    say_stretches(rt, free_stretches_with_table(file, order))
 }
 
 // Deletes the grid of a number: `delete NUMBER`.
-pub fn delete_grid(file: &mut [u8], order: Order, number: u32) {
-    say_stretches(delete_with_table(file, order, number));
+pub fn delete_grid(rt: &impl Print, file: &mut [u8], order: Order, number: u32) -> io::Result<()> {
+    say_stretches(rt, delete_with_table(file, order, number))
 }
 
 // A short table before a call: no place is zero, and each differs from the others.
@@ -81,41 +84,42 @@ fn short_table() -> [Extent; SHORT_PLACES] {
 }
 
 // Writes what deleting a grid with a short table answers: how many free stretches there are, and each place.
-fn say_short_stretches(stretches: ShortStretchTable) {
+fn say_short_stretches(rt: &impl Print, stretches: ShortStretchTable) -> io::Result<()> {
     let answer = stretches.answer;
     let table = stretches.table;
-    say_size(answer);
-    say_places(table);
+    say_size(rt, answer)?;
+    say_places(rt, table)
 }
 
 // Deletes the grid of a number, with a short table: `delete-short NUMBER`.
-pub fn delete_short(file: &mut [u8], order: Order, number: u32) {
-    say_short_stretches(delete_with_short_table(file, order, number, short_table()));
+pub fn delete_short(rt: &impl Print, file: &mut [u8], order: Order, number: u32) -> io::Result<()> {
+    say_short_stretches(
+        rt,
+        delete_with_short_table(file, order, number, short_table()),
+    )
 }
 
 // Writes what adding a grid answers: its number and address, how many free stretches there are, and each of them.
-fn say_addition(addition: Addition) {
+fn say_addition(rt: &impl Print, addition: Addition) -> io::Result<()> {
     let answer = addition.answer;
     let table = addition.table;
-    say_added(answer);
-    say_table(table);
+    say_added(rt, answer)?;
+    say_table(rt, table)
 }
 
 // Writes what adding a grid with a short table answers: its number and address, how many free stretches there are, and each place.
-fn say_short_addition(addition: ShortAddition) {
+fn say_short_addition(rt: &impl Print, addition: ShortAddition) -> io::Result<()> {
     let answer = addition.answer;
     let table = addition.table;
-    say_added(answer);
-    say_places(table);
+    say_added(rt, answer)?;
+    say_places(rt, table)
 }
 
 // The bytes that headers are made of: byte i is i + 1 modulo 256.
 fn made_header() -> [u8; 300] {
     let mut header = [0u8; 300];
-    let mut i = 0;
-    while i < 300 {
+    for i in 0..300 {
         header[i] = ((i + 1) % 256) as u8;
-        i += 1;
     }
     header
 }
@@ -124,48 +128,72 @@ fn made_header() -> [u8; 300] {
 fn values_from(first: u32) -> [i32; 100] {
     let mut values = [0i32; 100];
     let mut n = first;
-    let mut i = 0;
-    while i < 100 {
-        values[i] = signed(n);
-        n = std::num::wrapping_add_u32(n, 1);
-        i += 1;
+    for value in &mut values {
+        *value = signed(n);
+        n = n.wrapping_add(1);
     }
     values
 }
 
 // Adds a grid, by the word of a number.
-fn add_whole(file: &mut [u8], order: Order, call: u32, n: Numbers, header: &[u8], values: &[i32]) {
+fn add_whole(
+    rt: &impl Print,
+    file: &mut [u8],
+    order: Order,
+    call: u32,
+    n: Numbers,
+    header: &[u8],
+    values: &[i32],
+) -> io::Result<()> {
     match call {
-        ADD => say_addition(add_with_table(file, order, header, n.a, n.b, values)),
-        _ => say_short_addition(add_with_short_table(
-            file,
-            order,
-            header,
-            n.a,
-            n.b,
-            values,
-            short_table(),
-        )),
+        ADD => say_addition(rt, add_with_table(file, order, header, n.a, n.b, values)),
+        _ => say_short_addition(
+            rt,
+            add_with_short_table(file, order, header, n.a, n.b, values, short_table()),
+        ),
     }
 }
 
 // Adds a grid, with the first bytes of a header and the first of some values; adds none where they are too few.
-fn add_made(file: &mut [u8], order: Order, call: u32, n: Numbers, header: &[u8], values: &[i32]) {
+fn add_made(
+    rt: &impl Print,
+    file: &mut [u8],
+    order: Order,
+    call: u32,
+    n: Numbers,
+    header: &[u8],
+    values: &[i32],
+) -> io::Result<()> {
     let count = n.d as usize;
     let bytes = n.e as usize;
     if count <= values.len() {
         if bytes <= header.len() {
-            add_whole(file, order, call, n, &header[0..bytes], &values[0..count]);
+            add_whole(
+                rt,
+                file,
+                order,
+                call,
+                n,
+                &header[0..bytes],
+                &values[0..count],
+            )?;
         }
     }
+    Ok(())
 }
 
 // Adds a grid: `add ROWS COLUMNS FIRST VALUES BYTES`, with so many values, at most 100, which are FIRST, FIRST + 1 and so on, and with a header of so many bytes, at most
 // 300, of which byte i is i + 1 modulo 256; or `add-short`, with the same and a short table.
-pub fn add_grid(file: &mut [u8], order: Order, call: u32, n: Numbers) {
+pub fn add_grid(
+    rt: &impl Print,
+    file: &mut [u8],
+    order: Order,
+    call: u32,
+    n: Numbers,
+) -> io::Result<()> {
     let header = made_header();
     let values = values_from(n.c);
-    add_made(file, order, call, n, &header, &values);
+    add_made(rt, file, order, call, n, &header, &values)
 }
 
 // A word of the file, counted from 0, or 0 where the file has it not.
@@ -188,23 +216,16 @@ pub fn set_word(file: &mut [u8], order: Order, k: u32, n: u32) {
 // Sets the word of a number of a line, where the line has it. Words are counted from a first number on.
 fn set_named(file: &mut [u8], order: Order, first: u32, k: Number, n: Number) {
     if k.present {
-        set_word(
-            file,
-            order,
-            std::num::wrapping_sub_u32(k.word, first),
-            n.word,
-        );
+        set_word(file, order, k.word.wrapping_sub(first), n.word);
     }
 }
 
 // Sets the words of a line, each by its number and its value: `words K=N ..`. Words are counted from a first number on.
 pub fn set_words(file: &mut [u8], order: Order, first: u32, line: &[u8]) {
-    let mut i = 0;
-    while i < line.len() / 2 {
+    for i in 0..line.len() / 2 {
         let k = number_in(line, 2 * i);
         let n = number_in(line, 2 * i + 1);
         set_named(file, order, first, k, n);
-        i += 1;
     }
 }
 
@@ -215,69 +236,50 @@ fn area_byte(i: usize) -> u8 {
 
 // Makes an AREA file: its directory holds 0, and each byte i behind it i modulo 256.
 pub fn make_bytes(file: &mut [u8]) {
-    let mut i = 0;
-    while i < file.len() {
+    for i in 0..file.len() {
         file[i] = area_byte(i);
-        i += 1;
     }
 }
 
 // Makes a file of another kind: each word k holds k.
 pub fn make_words(file: &mut [u8], order: Order) {
-    let mut k: u32 = 0;
-    while k < 4121 {
+    for k in 0..4121 {
         set_word(file, order, k, k);
-        k += 1;
     }
 }
 
 // Copies the first n bytes, or as many of them as both have.
 pub fn copy_bytes(n: usize, from: &[u8], to: &mut [u8]) {
-    let mut i = 0;
-    while i < n {
-        if from.len() <= i {
-            return;
-        }
-        if to.len() <= i {
-            return;
-        }
+    for i in 0..n.min(from.len()).min(to.len()) {
         to[i] = from[i];
-        i += 1;
     }
 }
 
 // Writes a byte of the file where it differs from that of the copy: its index and its value. Answers whether it does.
-fn say_difference(index: usize, byte: u8, copied: u8) -> bool {
+fn say_difference(rt: &impl Print, index: usize, byte: u8, copied: u8) -> io::Result<bool> {
     if byte == copied {
-        return false;
+        return Ok(false);
     }
-    say(NEXT, index as u64);
-    say(EQUALS, byte as u64);
-    true
+    say(rt, NEXT, index as u64)?;
+    say(rt, EQUALS, byte as u64)?;
+    Ok(true)
 }
 
 // Writes each of the first n bytes of the file that differs from that of the copy. Answers whether one does.
-fn say_differences(n: usize, file: &[u8], copy: &[u8]) -> bool {
+fn say_differences(rt: &impl Print, n: usize, file: &[u8], copy: &[u8]) -> io::Result<bool> {
     let mut found = false;
-    let mut i = 0;
-    while i < n {
-        if file.len() <= i {
-            return found;
-        }
-        if copy.len() <= i {
-            return found;
-        }
-        if say_difference(i, file[i], copy[i]) {
+    for i in 0..n.min(file.len()).min(copy.len()) {
+        if say_difference(rt, i, file[i], copy[i])? {
             found = true;
         }
-        i += 1;
     }
-    found
+    Ok(found)
 }
 
 // Writes what differs, or that nothing does.
-pub fn compare(n: usize, file: &[u8], copy: &[u8]) {
-    if !say_differences(n, file, copy) {
-        print(b": none");
+pub fn compare(rt: &impl Print, n: usize, file: &[u8], copy: &[u8]) -> io::Result<()> {
+    if !say_differences(rt, n, file, copy)? {
+        print(rt, b": none")?;
     }
+    Ok(())
 }

@@ -22,7 +22,8 @@ use endian::signed;
 use endian_rules::Order;
 use layout::{open_area, open_grid, open_md};
 use layout_rules::{Layout, Opening};
-use libc::STDIN_FILENO;
+use std::io;
+use std::io::Read;
 use words::{LINE_FEED, Numbers, index_from, numbers_in, word_number};
 
 // The word `store-field`, the last word of a call that is asked with a layout: the one that opening the file gave where it last gave one.
@@ -75,7 +76,7 @@ const DIFFERENCES: u32 = 43;
 
 // What a script is at: the kind of the file, as the word that makes it, and its length; the kind, the grid number and the length of the file that opening last gave a
 // layout for, whose bytes are kept; and the length of the copy that is kept.
-#[derive(Drop)]
+#[derive(Clone, Copy)]
 struct Subject {
     kind: u32,
     length: usize,
@@ -95,23 +96,30 @@ fn open_kind(file: &[u8], kind: u32, order: Order, number: u32) -> Opening {
 }
 
 // Asks the call of a word that takes a layout.
-fn ask_with(file: &mut [u8], layout: Layout, call: u32, n: Numbers) {
+fn ask_with(
+    rt: &impl Print,
+    file: &mut [u8],
+    layout: Layout,
+    call: u32,
+    n: Numbers,
+) -> io::Result<()> {
     if STORE_SAMPLE <= call {
-        store_value(file, layout, call, n);
+        store_value(rt, file, layout, call, n)
     } else {
-        ask(file, layout, call, n);
+        ask(rt, file, layout, call, n)
     }
 }
 
 // Asks the call of a word with the layout that opening the bytes that are kept gives.
 fn ask_opened(
+    rt: &impl Print,
     file: &mut [u8],
     order: Order,
     subject: Subject,
     call: u32,
     n: Numbers,
     bytes: &[u8],
-) {
+) -> io::Result<()> {
     let end = subject.opened_length;
     if end <= bytes.len() {
         match open_kind(
@@ -120,10 +128,11 @@ fn ask_opened(
             order,
             subject.opened_number,
         ) {
-            Opening::Opened(layout) => ask_with(file, layout, call, n),
+            Opening::Opened(layout) => ask_with(rt, file, layout, call, n)?,
             Opening::Refused(_) => (),
         }
     }
+    Ok(())
 }
 
 // The number of the first word of a file of a kind.
@@ -132,38 +141,61 @@ fn first_word(kind: u32) -> u32 {
 }
 
 // Opens the file with a word as another number, and sets the word back.
-fn try_word(file: &mut [u8], order: Order, kind: u32, n: Numbers) {
-    let k = std::num::wrapping_sub_u32(n.a, first_word(kind));
+fn try_word(
+    rt: &impl Print,
+    file: &mut [u8],
+    order: Order,
+    kind: u32,
+    n: Numbers,
+) -> io::Result<()> {
+    let k = n.a.wrapping_sub(first_word(kind));
     let old = word_at(file, order, k);
     set_word(file, order, k, n.b);
-    say_opening(open_kind(file, kind, order, n.c));
+    say_opening(rt, open_kind(file, kind, order, n.c))?;
     set_word(file, order, k, old);
+    Ok(())
 }
 
 // Does what a word says that needs no layout and no copy.
-fn change(file: &mut [u8], order: Order, kind: u32, call: u32, n: Numbers, line: &[u8]) {
+fn change(
+    rt: &impl Print,
+    file: &mut [u8],
+    order: Order,
+    kind: u32,
+    call: u32,
+    n: Numbers,
+    line: &[u8],
+) -> io::Result<()> {
     match call {
-        DELETE => delete_grid(file, order, n.a),
-        ADD..=ADD_SHORT => add_grid(file, order, call, n),
-        DELETE_SHORT => delete_short(file, order, n.a),
-        STRETCHES => tell_stretches(file, order),
-        WORD => say_word(FIRST, signed(word_at(file, order, n.a))),
-        DATE => say_date(date_of(signed(n.a))),
-        TIME => say_time(time_of(signed(n.a))),
+        DELETE => delete_grid(rt, file, order, n.a)?,
+        ADD..=ADD_SHORT => add_grid(rt, file, order, call, n)?,
+        DELETE_SHORT => delete_short(rt, file, order, n.a)?,
+        STRETCHES => tell_stretches(rt, file, order)?,
+        WORD => say_word(rt, FIRST, signed(word_at(file, order, n.a)))?,
+        DATE => say_date(rt, date_of(signed(n.a)))?,
+        TIME => say_time(rt, time_of(signed(n.a)))?,
         WORDS => set_words(file, order, first_word(kind), line),
-        WITH => try_word(file, order, kind, n),
+        WITH => try_word(rt, file, order, kind, n)?,
         AREA => make_bytes(file),
         _ => make_words(file, order),
     }
+    Ok(())
 }
 
 // Does what a word says of the copy.
-fn use_copy(n: usize, call: u32, file: &mut [u8], copy: &mut [u8]) {
+fn use_copy(
+    rt: &impl Print,
+    n: usize,
+    call: u32,
+    file: &mut [u8],
+    copy: &mut [u8],
+) -> io::Result<()> {
     match call {
         KEEP => copy_bytes(n, file, copy),
         RESTORE => copy_bytes(n, copy, file),
-        _ => compare(n, file, copy),
+        _ => compare(rt, n, file, copy)?,
     }
+    Ok(())
 }
 
 // The subject that has opened its file.
@@ -180,20 +212,21 @@ fn opened(subject: Subject, number: u32) -> Subject {
 
 // Opens the file, and keeps its bytes where opening gives a layout.
 fn open_file(
+    rt: &impl Print,
     subject: Subject,
     order: Order,
     number: u32,
     file: &[u8],
     bytes: &mut [u8],
-) -> Subject {
+) -> io::Result<Subject> {
     let opening = open_kind(file, subject.kind, order, number);
-    say_opening(opening);
+    say_opening(rt, opening)?;
     match opening {
         Opening::Opened(_) => {
             copy_bytes(subject.length, file, bytes);
-            opened(subject, number)
+            Ok(opened(subject, number))
         }
-        Opening::Refused(_) => subject,
+        Opening::Refused(_) => Ok(subject),
     }
 }
 
@@ -222,6 +255,7 @@ fn about(subject: Subject, call: u32, length: usize) -> Subject {
 
 // Does what a word says, other than `open`.
 fn act(
+    rt: &impl Print,
     subject: Subject,
     order: Order,
     call: u32,
@@ -229,18 +263,19 @@ fn act(
     file: &mut [u8],
     copy: &mut [u8],
     bytes: &[u8],
-) {
+) -> io::Result<()> {
     let n = numbers_in(line);
     match call {
-        SAMPLE..=STORE_FIELD => ask_opened(file, order, subject, call, n, bytes),
-        DELETE..=MD => change(file, order, subject.kind, call, n, line),
-        KEEP..=DIFFERENCES => use_copy(subject.copied, call, file, copy),
-        _ => (),
+        SAMPLE..=STORE_FIELD => ask_opened(rt, file, order, subject, call, n, bytes),
+        DELETE..=MD => change(rt, file, order, subject.kind, call, n, line),
+        KEEP..=DIFFERENCES => use_copy(rt, subject.copied, call, file, copy),
+        _ => Ok(()),
     }
 }
 
 // Does what a line says to a file. Answers the subject after it.
 fn acted(
+    rt: &impl Print,
     subject: Subject,
     order: Order,
     call: u32,
@@ -248,17 +283,18 @@ fn acted(
     file: &mut [u8],
     copy: &mut [u8],
     bytes: &mut [u8],
-) -> Subject {
+) -> io::Result<Subject> {
     if call == OPEN {
         let n = numbers_in(line);
-        return open_file(subject, order, n.a, file, bytes);
+        return open_file(rt, subject, order, n.a, file, bytes);
     }
-    act(subject, order, call, line, file, copy, bytes);
-    subject
+    act(rt, subject, order, call, line, file, copy, bytes)?;
+    Ok(subject)
 }
 
 // A line of the script, which begins with the word of a number. Answers the subject after it.
 fn step(
+    rt: &impl Print,
     before: Subject,
     order: Order,
     call: u32,
@@ -266,15 +302,24 @@ fn step(
     space: &mut [u8],
     copy: &mut [u8],
     bytes: &mut [u8],
-) -> Subject {
+) -> io::Result<Subject> {
     let n = numbers_in(line);
     let subject = about(before, call, n.a as usize);
     let end = subject.length;
-    print(line);
+    print(rt, line)?;
     if end <= space.len() {
-        return acted(subject, order, call, line, &mut space[0..end], copy, bytes);
+        return acted(
+            rt,
+            subject,
+            order,
+            call,
+            line,
+            &mut space[0..end],
+            copy,
+            bytes,
+        );
     }
-    subject
+    Ok(subject)
 }
 
 // The subject before the first line: a file of no bytes that gave no layout.
@@ -290,7 +335,7 @@ fn nothing() -> Subject {
 }
 
 // Runs the lines of a script with files in a byte order.
-fn run_lines(list: &[u8], text: &[u8], order: Order) {
+fn run_lines(rt: &impl Print, list: &[u8], text: &[u8], order: Order) -> io::Result<()> {
     let mut space = [0u8; 16484];
     let mut copy = [0u8; 16484];
     let mut bytes = [0u8; 16484];
@@ -300,6 +345,7 @@ fn run_lines(list: &[u8], text: &[u8], order: Order) {
         let end = index_from(text, at, LINE_FEED);
         let call = word_number(&text[at..end], list);
         subject = step(
+            rt,
             subject,
             order,
             call,
@@ -307,24 +353,25 @@ fn run_lines(list: &[u8], text: &[u8], order: Order) {
             &mut space,
             &mut copy,
             &mut bytes,
-        );
-        end_line();
+        )?;
+        end_line(rt)?;
         at = end + 1;
     }
+    Ok(())
 }
 
 // Runs a script in both byte orders. The line feed behind the list of words ends the line that names the order.
-fn run(text: &[u8]) {
+fn run(rt: &impl Print, text: &[u8]) -> io::Result<()> {
     let end = index_from(text, 0, LINE_FEED);
-    print(b"BIG ORDER");
-    run_lines(&text[0..end], &text[end..], Order::Big);
-    print(b"LITTLE ORDER");
-    run_lines(&text[0..end], &text[end..], Order::Little);
+    print(rt, b"BIG ORDER")?;
+    run_lines(rt, &text[0..end], &text[end..], Order::Big)?;
+    print(rt, b"LITTLE ORDER")?;
+    run_lines(rt, &text[0..end], &text[end..], Order::Little)
 }
 
 // Reads a script of at most 32,768 bytes and runs it.
-fn main() {
-    let mut text = [0u8; 32768];
-    let taken = io::read_full(STDIN_FILENO, &mut text);
-    run(&text[..taken]);
+fn main(rt: HostRuntime) -> io::Result<()> {
+    let mut text = Vec::new(rt.alloc());
+    rt.reader().take(32768).read_to_end(&mut text)?;
+    run(&rt, &text)
 }

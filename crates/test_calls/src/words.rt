@@ -17,14 +17,14 @@ const ZERO: u8 = 48;
 const NINE: u8 = 57;
 
 // A number of a line, and whether the line has it. Where it has not, the number is 0.
-#[derive(Drop)]
+#[derive(Clone, Copy)]
 pub struct Number {
     pub present: bool,
     pub word: u32,
 }
 
 // The first five numbers of a line, 0 for each that it has not.
-#[derive(Drop)]
+#[derive(Clone, Copy)]
 pub struct Numbers {
     pub a: u32,
     pub b: u32,
@@ -34,7 +34,7 @@ pub struct Numbers {
 }
 
 // A number that is being read: whether a digit of it has been, whether a minus sign stands before it, and what its digits are, cut to 32 bits.
-#[derive(Drop)]
+#[derive(Clone, Copy)]
 struct Reading {
     begun: bool,
     negative: bool,
@@ -58,20 +58,13 @@ pub fn index_from(text: &[u8], at: usize, byte: u8) -> usize
 
 // Whether a line begins with a word, with a space or nothing behind it.
 fn begins(line: &[u8], word: &[u8]) -> bool {
-    let mut i = 0;
-    while i < word.len() {
-        if line.len() <= i {
-            return false;
-        }
-        if line[i] != word[i] {
-            return false;
-        }
-        i += 1;
+    if !line.starts_with(word) {
+        return false;
     }
-    if line.len() <= i {
-        return true;
+    match line.get(word.len()) {
+        Some(byte) => *byte == SPACE,
+        None => true,
     }
-    line[i] == SPACE
 }
 
 // The number, counted from 0, of the word that a line begins with, in a list of words with a space between them; where it begins with none of them, how many they are.
@@ -83,7 +76,7 @@ pub fn word_number(line: &[u8], list: &[u8]) -> u32 {
         if begins(line, &list[at..end]) {
             return k;
         }
-        k = std::num::wrapping_add_u32(k, 1);
+        k = k.wrapping_add(1);
         at = end + 1;
     }
     k
@@ -132,9 +125,8 @@ pub fn number_in(line: &[u8], index: usize) -> Number {
         negative: false,
         digits: 0,
     };
-    let mut i = 0;
-    while i < line.len() {
-        let next = read_on(reading, line[i]);
+    for byte in line {
+        let next = read_on(reading, *byte);
         if reading.begun {
             if !next.begun {
                 if left == 0 {
@@ -144,7 +136,6 @@ pub fn number_in(line: &[u8], index: usize) -> Number {
             }
         }
         reading = next;
-        i += 1;
     }
     if left == 0 {
         return number_of(reading);

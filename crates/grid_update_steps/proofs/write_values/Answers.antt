@@ -1,0 +1,24 @@
+-- `grid_update_steps::write_values` meets its contract: after i turns the first i words are stored.
+-- Assumes nothing.
+use mathlib.Core.Path.{◌≡◌, refl, ap, ◌∙◌}
+use mathlib.Core.List.{map}
+use Prim.Native.Nat.{◌+◌, ◌-◌, ◌*◌}
+use native.Mathlib.Omega.{arith}
+use lib.IntN.{ℤ, pos}
+use lib.ListN.{length, get_or, take}
+use lib.Seq.{sets, length-sets, take_all}
+use mir.Syntax.{w32}
+use mir.Val.{of_z}
+use Rattle.endian_rules.specs.Words.{encode_signed}
+use Rattle.endian_rules.specs.Files.{bytes_of}
+use Rattle.endian_rules.proofs.Signs.{same_word}
+use Rattle.grid_update_rules.proofs.Bytes.{signed-behind}
+use Rattle.grid_update_steps.proofs.write_values.Goals as goal
+
+pub loop-i-preserved : goal.loop-i-preserved
+loop-i-preserved c =
+    let a = c.args in
+    let i = c.loop-i in
+    let same = same_word (get_or a.values.now i.i (pos 0)) c.write_signed-arg-in-loop-i-1.given in
+    signed-behind a.order a.file.now a.at a.values.now i.i (pos 0) c.loop-i-test.true i.invariant
+    (c.write_signed.ensures ∙ ap (λ (z : ℤ). sets i.file (a.at + 4 * i.i) (encode_signed a.order z)) same)
