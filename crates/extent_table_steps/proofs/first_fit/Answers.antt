@@ -7,3 +7,8 @@ use Rattle.extent_table_steps.proofs.first_fit.Goals as goal
 
 pub bounds-table-i : goal.bounds-table-i
 bounds-table-i c = omega (arith, c.lesser-places.ensures, lesser-within c.args.count (length c.args.table.now))
+
+pub offset_bounds-table-i : goal.offset_bounds-table-i
+offset_bounds-table-i c =
+    let within : c.loop-i.i < length c.args.table.now = omega (arith, c.lesser-places.ensures, lesser-within c.args.count (length c.args.table.now)) in
+    search rules

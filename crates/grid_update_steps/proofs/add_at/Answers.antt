@@ -173,7 +173,7 @@ placed_at_After_write_grid_arg_1 c = ap (λ (e : Extent). e.start) c.first_fitti
 -- the file with the grid in it
 written_at_After_set_next_free_arg_1 : (c : goal.After-set_next_free-arg-1)
     → let a = c.args in
-    c.write_grid.new.0 ≡ sets a.file.now (4 * new_address a.order a.file.now a.header.now a.rows a.columns a.values.now)
+    c.write_grid.new.file ≡ sets a.file.now (4 * new_address a.order a.file.now a.header.now a.rows a.columns a.values.now)
     (new_bytes a.order a.file.now a.header.now a.rows a.columns a.values.now)
 written_at_After_set_next_free_arg_1 c =
     let a = c.args in
@@ -183,7 +183,7 @@ written_at_After_set_next_free_arg_1 c =
 -- the file with the grid in it
 written_at_After_slice_known_in_Pass_3_1 : (c : goal.After-slice_known-in-Pass-3-1)
     → let a = c.args in
-    c.write_grid.new.0 ≡ sets a.file.now (4 * new_address a.order a.file.now a.header.now a.rows a.columns a.values.now)
+    c.write_grid.new.file ≡ sets a.file.now (4 * new_address a.order a.file.now a.header.now a.rows a.columns a.values.now)
     (new_bytes a.order a.file.now a.header.now a.rows a.columns a.values.now)
 written_at_After_slice_known_in_Pass_3_1 c =
     let a = c.args in
@@ -193,7 +193,7 @@ written_at_After_slice_known_in_Pass_3_1 c =
 -- the file with the grid in it
 written_at_After_struct_known_1 : (c : goal.After-struct_known-1)
     → let a = c.args in
-    c.write_grid.new.0 ≡ sets a.file.now (4 * new_address a.order a.file.now a.header.now a.rows a.columns a.values.now)
+    c.write_grid.new.file ≡ sets a.file.now (4 * new_address a.order a.file.now a.header.now a.rows a.columns a.values.now)
     (new_bytes a.order a.file.now a.header.now a.rows a.columns a.values.now)
 written_at_After_struct_known_1 c =
     let a = c.args in
@@ -203,7 +203,7 @@ written_at_After_struct_known_1 c =
 -- the file with the grid in it
 written_at_After_survey_free_stretches : (c : goal.After-survey_free-stretches)
     → let a = c.args in
-    c.write_grid.new.0 ≡ sets a.file.now (4 * new_address a.order a.file.now a.header.now a.rows a.columns a.values.now)
+    c.write_grid.new.file ≡ sets a.file.now (4 * new_address a.order a.file.now a.header.now a.rows a.columns a.values.now)
     (new_bytes a.order a.file.now a.header.now a.rows a.columns a.values.now)
 written_at_After_survey_free_stretches c =
     let a = c.args in
@@ -213,7 +213,7 @@ written_at_After_survey_free_stretches c =
 -- and in its slot
 put_at_After_set_next_free_arg_1 : (c : goal.After-set_next_free-arg-1)
     → let a = c.args in
-    c.write_number.new.1.1.0 ≡ grid_in a.order a.file.now a.header.now a.rows a.columns a.values.now
+    c.write_number.new.file ≡ grid_in a.order a.file.now a.header.now a.rows a.columns a.values.now
 put_at_After_set_next_free_arg_1 c =
     let a = c.args in
     c.write_number.ensures
@@ -224,7 +224,7 @@ put_at_After_set_next_free_arg_1 c =
 -- and in its slot
 put_at_After_slice_known_in_Pass_3_1 : (c : goal.After-slice_known-in-Pass-3-1)
     → let a = c.args in
-    c.write_number.new.1.1.0 ≡ grid_in a.order a.file.now a.header.now a.rows a.columns a.values.now
+    c.write_number.new.file ≡ grid_in a.order a.file.now a.header.now a.rows a.columns a.values.now
 put_at_After_slice_known_in_Pass_3_1 c =
     let a = c.args in
     c.write_number.ensures
@@ -235,7 +235,7 @@ put_at_After_slice_known_in_Pass_3_1 c =
 -- and in its slot
 put_at_After_survey_free_stretches : (c : goal.After-survey_free-stretches)
     → let a = c.args in
-    c.write_number.new.1.1.0 ≡ grid_in a.order a.file.now a.header.now a.rows a.columns a.values.now
+    c.write_number.new.file ≡ grid_in a.order a.file.now a.header.now a.rows a.columns a.values.now
 put_at_After_survey_free_stretches c =
     let a = c.args in
     c.write_number.ensures
@@ -246,7 +246,7 @@ put_at_After_survey_free_stretches c =
 -- and with its next free word
 left_at_After_slice_known_in_Pass_3_1 : (c : goal.After-slice_known-in-Pass-3-1)
     → let a = c.args in
-    c.set_next_free.new.0 ≡ with_grid a.order a.file.now a.header.now a.rows a.columns a.values.now
+    c.set_next_free.new.file ≡ with_grid a.order a.file.now a.header.now a.rows a.columns a.values.now
 unfolding with_grid grid_put
 left_at_After_slice_known_in_Pass_3_1 c = let a = c.args in
     c.set_next_free.ensures ∙ ap (next_free_set a.order) (put_at_After_slice_known_in_Pass_3_1 c)
@@ -254,7 +254,7 @@ left_at_After_slice_known_in_Pass_3_1 c = let a = c.args in
 -- and with its next free word
 left_at_After_survey_free_stretches : (c : goal.After-survey_free-stretches)
     → let a = c.args in
-    c.set_next_free.new.0 ≡ with_grid a.order a.file.now a.header.now a.rows a.columns a.values.now
+    c.set_next_free.new.file ≡ with_grid a.order a.file.now a.header.now a.rows a.columns a.values.now
 unfolding with_grid grid_put
 left_at_After_survey_free_stretches c = let a = c.args in
     c.set_next_free.ensures ∙ ap (next_free_set a.order) (put_at_After_survey_free_stretches c)
@@ -286,7 +286,7 @@ write_number-requires c =
     let a = c.args in
     let ok = passed_at_After_struct_known_1 c in
     let p = (add_passes a.order a.file.now (length a.header.now) a.rows a.columns (length a.values.now) a.size).0 ok in
-    let same : length c.write_grid.new.0 ≡ length a.file.now = ap length (written_at_After_struct_known_1 c) ∙
+    let same : length c.write_grid.new.file ≡ length a.file.now = ap length (written_at_After_struct_known_1 c) ∙
     length-sets a.file.now (4 * new_address a.order a.file.now a.header.now a.rows a.columns a.values.now)
     (new_bytes a.order a.file.now a.header.now a.rows a.columns a.values.now) in
     omega (
@@ -333,7 +333,7 @@ unfolding add_step
 returns-in-Pass c =
     let a = c.args in
     let count = c.survey_free-stretches.result.count in
-    ap (λ (x : Added). ((gives x, count), c.set_next_free.new.0))
+    ap (λ (x : Added). ((gives x, count), c.set_next_free.new.file))
     (added_is a.order a.file.now a.rows a.columns count _ _
     (numbered_at_After_survey_free_stretches c)
     (placed_at_After_survey_free_stretches c))

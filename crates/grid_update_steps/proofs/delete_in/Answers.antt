@@ -41,21 +41,21 @@ passed_at_After_write_number_arg_1 c = sym c.delete_verdict.ensures ∙ c.in-Pas
 
 -- the file when its slot is empty
 emptied_at_After_set_next_free_arg_1 : (c : goal.After-set_next_free-arg-1)
-    → let a = c.args in c.write_number.new.1.1.0 ≡ set_word a.order a.file.now (10 + a.number)
+    → let a = c.args in c.write_number.new.file ≡ set_word a.order a.file.now (10 + a.number)
     empty_slot
 unfolding set_word
 emptied_at_After_set_next_free_arg_1 c = c.write_number.ensures
 
 -- the file when its slot is empty
 emptied_at_After_slice_known_in_Pass_2_1 : (c : goal.After-slice_known-in-Pass-2-1)
-    → let a = c.args in c.write_number.new.1.1.0 ≡ set_word a.order a.file.now (10 + a.number)
+    → let a = c.args in c.write_number.new.file ≡ set_word a.order a.file.now (10 + a.number)
     empty_slot
 unfolding set_word
 emptied_at_After_slice_known_in_Pass_2_1 c = c.write_number.ensures
 
 -- the file when its slot is empty
 emptied_at_After_survey_free_stretches : (c : goal.After-survey_free-stretches)
-    → let a = c.args in c.write_number.new.1.1.0 ≡ set_word a.order a.file.now (10 + a.number)
+    → let a = c.args in c.write_number.new.file ≡ set_word a.order a.file.now (10 + a.number)
     empty_slot
 unfolding set_word
 emptied_at_After_survey_free_stretches c = c.write_number.ensures
@@ -63,7 +63,7 @@ emptied_at_After_survey_free_stretches c = c.write_number.ensures
 -- and when its next free word is set
 left_at_After_slice_known_in_Pass_2_1 : (c : goal.After-slice_known-in-Pass-2-1)
     → let a = c.args in
-    c.set_next_free.new.0 ≡ without_grid a.order a.file.now a.number
+    c.set_next_free.new.file ≡ without_grid a.order a.file.now a.number
 unfolding without_grid
 left_at_After_slice_known_in_Pass_2_1 c = let a = c.args in c.set_next_free.ensures ∙ ap
     (next_free_set a.order) (emptied_at_After_slice_known_in_Pass_2_1 c)
@@ -71,7 +71,7 @@ left_at_After_slice_known_in_Pass_2_1 c = let a = c.args in c.set_next_free.ensu
 -- and when its next free word is set
 left_at_After_survey_free_stretches : (c : goal.After-survey_free-stretches)
     → let a = c.args in
-    c.set_next_free.new.0 ≡ without_grid a.order a.file.now a.number
+    c.set_next_free.new.file ≡ without_grid a.order a.file.now a.number
 unfolding without_grid
 left_at_After_survey_free_stretches c = let a = c.args in c.set_next_free.ensures ∙ ap
     (next_free_set a.order) (emptied_at_After_survey_free_stretches c)

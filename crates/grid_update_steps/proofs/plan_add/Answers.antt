@@ -27,11 +27,6 @@ passed_at_After_struct_known_1 : (c : goal.After-struct_known-1) → let a = c.a
     (add_rules a.order a.file.now a.headers a.rows a.columns a.values a.size) ≡ Pass
 passed_at_After_struct_known_1 c = sym c.add_verdict.ensures ∙ c.in-Pass-add_verdict.is
 
--- and where the rules have
-passed : (c : goal.In-Pass-add_verdict) → let a = c.args in first_fault
-    (add_rules a.order a.file.now a.headers a.rows a.columns a.values a.size) ≡ Pass
-passed c = sym c.add_verdict.ensures ∙ c.in-Pass-add_verdict.is
-
 -- the slot is one of at most 1,024
 slot_small_at_After_last_1 : (c : goal.After-last-1) → let a = c.args in lowest_empty (word_at a.order a.file.now)
     < 1024

@@ -12,18 +12,12 @@ use Rattle.grid_update_steps.proofs.write_grid.Goals as goal
 
 pub returns : goal.returns
 returns c =
-    let by_values = c in
-    let by-header = by_values.before.before.before.before in
-    let by_columns_lem = by-header.before.before.before.before.before in
-    let by_rows_lem = by_columns_lem.before.before.before.before in
-    let by_size = by_rows_lem.before.before.before.before in
-    let s = by_size.before.before.before.before in
-    let a = s.args in
+    let a = c.args in
     let h : List ℕ = a.header.now in
     let rest : take (length h - 12) (drop 12 h) ≡ drop 12 h = take_all (length h - 12) (drop 12 h) (omega (arith, length-drop 12 h)) in
-    grid_stored a.order h a.rows a.columns a.values.now a.file.now (4 * a.at) s.requires.0
-    by_size.write-number.ensures
-    by_rows_lem.write-number2.ensures
-    by_columns_lem.write-number3.ensures
-    (by-header.write_bytes.ensures ∙ ap (sets by_columns_lem.write-number3.new.1.1.0 (4 * a.at + 12)) rest)
-    by_values.write_values.ensures
+    grid_stored a.order h a.rows a.columns a.values.now a.file.now (4 * a.at) c.requires.0
+    c.write_number.ensures
+    c.write_number-2.ensures
+    c.write_number-3.ensures
+    (c.write_bytes.ensures ∙ ap (sets c.write_number-3.new.file (4 * a.at + 12)) rest)
+    c.write_values.ensures

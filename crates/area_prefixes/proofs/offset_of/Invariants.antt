@@ -1,0 +1,14 @@
+-- `area_prefixes::offset_of` meets its contract: after i turns the sum is that of the first i lengths.
+-- Assumes nothing.
+use mathlib.Core.Path.{◌≡◌, refl, sym, ap, ◌∙◌}
+use Prim.Native.Nat.{◌-◌, ◌≤◌, zero-le}
+use native.Mathlib.Omega.{arith}
+use Rattle.lists.specs.Segments.{segment_offset}
+use Rattle.lists.proofs.Segments.{segment_next, segment_inside}
+use Rattle.area_prefixes.proofs.offset_of.Given as goal
+
+abbrev pub invariant-loop-i : goal.invariant-loop-i
+invariant-loop-i l = (l.i ≤ l.k) × (l.offset ≡ segment_offset l.lengths l.i)
+
+abbrev pub decreases-loop-i : goal.decreases-loop-i
+decreases-loop-i l = l.k - l.i

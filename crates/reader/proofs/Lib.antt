@@ -1,3 +1,0 @@
-pub mod Calls
-pub mod Known
-pub mod Making
