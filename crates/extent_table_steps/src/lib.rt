@@ -1,6 +1,6 @@
 // A lent table of the free stretches of a GRID file, each with its start and its length: it is filled from the file, and searched first fit.
 //
-// A table is a lent slice of structs, of which a proof is written out step by step. What is computed is computed by value, in extent_steps.
+// What is computed is computed by value, in extent_steps.
 #![tactic(auto)]
 
 ghost use Rattle.std.specs.Prelude.{◌≡◌, ◌≤◌, ◌<◌, length};

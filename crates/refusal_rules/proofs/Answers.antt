@@ -8,16 +8,12 @@ use native.Mathlib.Omega.{arith}
 use Rattle.refusal_rules.specs.Rules.{Rule, first_fault, Every, Hold, Give, FirstFailing}
 use Rattle.refusal_rules.specs.Answers.{Answer, gives, refuses, answered, mapped, and_then, number_says, word_says, size_says, place_says}
 use Rattle.refusal_rules.specs.declared.NumberAnswer.{NumberAnswer}
-use Rattle.refusal_rules.specs.declared.NumberAnswer.TheVariants as NumberAnswer
 use Rattle.refusal_rules.specs.declared.PlaceAnswer.{PlaceAnswer}
-use Rattle.refusal_rules.specs.declared.PlaceAnswer.TheVariants as PlaceAnswer
 use Rattle.refusal_rules.specs.declared.Refusal.{Refusal}
 use Rattle.refusal_rules.specs.declared.SizeAnswer.{SizeAnswer}
-use Rattle.refusal_rules.specs.declared.SizeAnswer.TheVariants as SizeAnswer
 use Rattle.refusal_rules.specs.declared.Verdict.{Verdict}
 use Rattle.refusal_rules.specs.declared.Verdict.TheVariants.{Pass, Fault}
 use Rattle.refusal_rules.specs.declared.WordAnswer.{WordAnswer}
-use Rattle.refusal_rules.specs.declared.WordAnswer.TheVariants as WordAnswer
 use Rattle.refusal_rules.proofs.Tables.{pass_hold, hold_pass, fault_first, first_fault_lem, every_right, same_fault}
 
 -- ---- answers that are equal

@@ -5,16 +5,12 @@
 -- Assumes nothing.
 use Rattle.std.specs.Prelude.{ℕ, ◌*◌, ℤ}
 use Rattle.refusal_rules.specs.declared.NumberAnswer.{NumberAnswer}
-use Rattle.refusal_rules.specs.declared.NumberAnswer.TheVariants as NumberAnswer
 use Rattle.refusal_rules.specs.declared.Place.{Place}
 use Rattle.refusal_rules.specs.declared.PlaceAnswer.{PlaceAnswer}
-use Rattle.refusal_rules.specs.declared.PlaceAnswer.TheVariants as PlaceAnswer
 use Rattle.refusal_rules.specs.declared.SizeAnswer.{SizeAnswer}
-use Rattle.refusal_rules.specs.declared.SizeAnswer.TheVariants as SizeAnswer
 use Rattle.refusal_rules.specs.declared.Verdict.{Verdict}
 use Rattle.refusal_rules.specs.declared.Verdict.TheVariants.{Pass, Fault}
 use Rattle.refusal_rules.specs.declared.WordAnswer.{WordAnswer}
-use Rattle.refusal_rules.specs.declared.WordAnswer.TheVariants as WordAnswer
 
 -- a value, or the number and the place of a refusal
 pub data Answer (Value : Type 0) : Type 0 where

@@ -2,7 +2,6 @@
 -- Assumes nothing.
 use mathlib.Core.Path.{sym, ◌∙◌}
 use Rattle.area_rules.proofs.Directory.{short_file, short_directory, opens_big, opens_little, opens_neither}
-use borrow.Author.Rules.{rules}
 use Rattle.area.proofs.open_told.Goals as goal
 
 pub returns-then-told-lt256 : goal.returns-then-told-lt256

@@ -1,16 +1,11 @@
 -- `area::read_directory` meets its contract: after i turns the first i words are those of the file.
 -- Assumes nothing.
-use mathlib.Core.Path.{◌≡◌, refl, sym, ap, ◌∙◌}
-use mathlib.Core.List.{List, ◌++◌}
-use Prim.Native.Nat.{ℕ, ◌-◌, ◌≤◌, zero-le}
-use native.Mathlib.Omega.{arith}
+use mathlib.Core.Path.{◌≡◌}
+use mathlib.Core.List.{◌++◌}
+use Prim.Native.Nat.{◌-◌, ◌≤◌}
 use lib.ListN.{length, drop}
 use Rattle.endian_rules.specs.Words.{word_at}
-use Rattle.endian_rules.specs.declared.Order.{Order}
 use Rattle.lists.specs.Lists.{list_of}
-use Rattle.lists.proofs.Built.{length-list_of}
-use Rattle.lists.proofs.Filled.{over_all, over-list_of, filled_more}
-use Rattle.area_rules.specs.Rules.{directory_of}
 use Rattle.area.proofs.read_directory.Given as goal
 
 abbrev pub invariant-loop-i : goal.invariant-loop-i

@@ -3,7 +3,7 @@
 use mathlib.Core.Path.{◌≡◌, sym, ap, ap₂, ◌∙◌}
 use Prim.Native.Nat.{ℕ, ◌+◌, ◌*◌}
 use native.Mathlib.Omega.{arith}
-use borrow.Author.Tests.{eq-eqb, ne_eqb}
+use borrow.Author.Tests.{ne_eqb}
 use Rattle.refusal_rules.specs.Answers.{gives, size_says}
 use Rattle.refusal_rules.specs.Rules.{judge, first, first_fault}
 use Rattle.refusal_rules.proofs.Answers.{gives-refuses, gives-same}
@@ -13,7 +13,6 @@ use Rattle.area_rules.specs.declared.Block.TheVariants.{Audit}
 use Rattle.area_rules.proofs.Places.{data_length}
 use Rattle.span_rules.specs.Spans.{span}
 use Rattle.area_part_rules.specs.Blocks.{block_rules, block_of}
-use borrow.Author.Rules.{rules}
 use Rattle.area_blocks.proofs.audit_span.Goals as goal
 
 -- the bytes of DATA that were found

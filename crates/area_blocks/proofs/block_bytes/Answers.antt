@@ -1,9 +1,8 @@
 -- `area_blocks::block_bytes` meets its contract: the span that `block_span` gives is inside the file.
 -- Assumes nothing.
-use mathlib.Core.Path.{sym, ap, subst, ◌∙◌}
-use Rattle.span_rules.specs.Spans.{that_part, Inside}
+use mathlib.Core.Path.{sym, subst}
+use Rattle.span_rules.specs.Spans.{Inside}
 use Rattle.area_part_rules.proofs.Blocks.{block_in_file}
-use borrow.Author.Rules.{rules}
 use Rattle.area_blocks.proofs.block_bytes.Goals as goal
 
 pub hand_back-requires : goal.hand_back-requires

@@ -3,7 +3,6 @@
 use mathlib.Core.Path.{sym, ap, ◌∙◌}
 use Rattle.area_rules.specs.Opening.{area_says}
 use Rattle.layout_rules.proofs.OneKind.{area_known}
-use borrow.Author.Rules.{rules}
 use Rattle.area_blocks.proofs.block_span.Goals as goal
 
 pub span_of-requires : goal.span_of-requires

@@ -12,7 +12,6 @@ use Rattle.area_rules.specs.declared.Block.TheVariants.{Data}
 use Rattle.area_rules.proofs.Places.{data_length}
 use Rattle.span_rules.specs.Spans.{span}
 use Rattle.area_part_rules.specs.Blocks.{block_rules, block_of}
-use borrow.Author.Rules.{rules}
 use Rattle.area_blocks.proofs.data_span.Goals as goal
 
 pub returns-in-Refused : goal.returns-in-Refused

@@ -1,16 +1,10 @@
 -- `area_blocks::optional_span` meets its contract: a start of 0 is an absent block, and any other block ends behind its start.
 -- Assumes nothing.
-use mathlib.Core.Path.{◌≡◌, ap}
-use Prim.Native.Nat.{ℕ, ◌-◌}
+use mathlib.Core.Path.{◌≡◌}
+use Prim.Native.Nat.{◌-◌}
 use native.Mathlib.Omega.{arith}
-use borrow.Author.Tests.{eq-eqb, ne_eqb}
-use Rattle.refusal_rules.specs.Answers.{gives}
-use Rattle.refusal_rules.specs.Rules.{judge, first, first_fault}
 use Rattle.area_rules.specs.Blocks.{next_start, block_starts}
 use Rattle.area_rules.proofs.Blocks.{next-after}
-use Rattle.span_rules.specs.Spans.{span}
-use Rattle.area_part_rules.specs.Blocks.{optional_block_of}
-use borrow.Author.Rules.{rules}
 use Rattle.area_blocks.proofs.optional_span.Goals as goal
 
 pub overflow_sub-result : goal.overflow_sub-result

@@ -3,7 +3,6 @@
 use native.Mathlib.Omega.{arith}
 use Rattle.area_rules.specs.Rules.{word_in}
 use Rattle.area_rules.proofs.Counts.{AreaCounted, counted, line_most}
-use borrow.Author.Rules.{rules}
 use Rattle.area_directory.proofs.audit_end_of.Goals as goal
 
 pub end_of_audit-requires : goal.end_of_audit-requires

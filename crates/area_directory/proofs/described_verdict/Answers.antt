@@ -3,7 +3,6 @@
 use mathlib.Core.Path.{sym, ◌∙◌}
 use Rattle.area_rules.specs.Rules.{area_described_rules}
 use Rattle.refusal_rules.proofs.Tables.{fault_joined, pass_joined}
-use borrow.Author.Rules.{rules}
 use Rattle.area_directory.proofs.described_verdict.Goals as goal
 
 pub returns-in-Fault : goal.returns-in-Fault

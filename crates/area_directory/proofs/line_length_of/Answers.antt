@@ -3,7 +3,6 @@
 use native.Mathlib.Omega.{arith}
 use Rattle.area_rules.specs.Rules.{word_in}
 use Rattle.area_rules.proofs.Counts.{width_bounds, AreaCounted, counted}
-use borrow.Author.Rules.{rules}
 use Rattle.area_directory.proofs.line_length_of.Goals as goal
 
 pub line_bytes-requires : goal.line_bytes-requires

@@ -3,7 +3,6 @@
 use mathlib.Core.Path.{sym, ◌∙◌}
 use Rattle.area_rules.specs.Rules.{area_described_rules, area_word_rules}
 use Rattle.refusal_rules.proofs.Tables.{fault_joined, pass_joined, joined_pass}
-use borrow.Author.Rules.{rules}
 use Rattle.area_directory.proofs.word_verdict.Goals as goal
 
 pub place_verdict-requires : goal.place_verdict-requires

@@ -3,7 +3,6 @@
 use mathlib.Core.Path.{sym, ap, ◌∙◌}
 use Rattle.area_rules.specs.Opening.{area_says}
 use Rattle.layout_rules.proofs.OneKind.{area_known}
-use borrow.Author.Rules.{rules}
 use Rattle.area_lines.proofs.copy_line.Goals as goal
 
 pub copy_line_in-requires : goal.copy_line_in-requires

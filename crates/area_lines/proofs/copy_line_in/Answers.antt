@@ -1,13 +1,9 @@
 -- `area_lines::copy_line_in` meets its contract: the line is a run from the place of its element 0 on.
 -- Assumes nothing.
 use mathlib.Core.Path.{sym, ap, ◌∙◌}
-use native.Mathlib.Nat.{mul-le-mul}
-use native.Mathlib.Omega.{arith}
 use Rattle.refusal_rules.specs.Answers.{mapped, place_says}
-use Rattle.area_rules.proofs.Samples.{width-to}
 use Rattle.copy_rules.specs.Runs.{copied}
 use Rattle.area_part_rules.proofs.Lines.{line_from, line-from, line_samples_inside}
-use borrow.Author.Rules.{rules}
 use Rattle.area_lines.proofs.copy_line_in.Goals as goal
 
 pub copy_numbers-requires : goal.copy_numbers-requires

@@ -4,11 +4,10 @@ use mathlib.Core.Path.{◌≡◌, sym, ap, ◌∙◌}
 use Prim.Native.Nat.{ℕ, ◌*◌}
 use native.Mathlib.Nat.{le_refl}
 use native.Mathlib.Omega.{arith}
-use Rattle.refusal_rules.specs.Answers.{gives, mapped, size_says}
-use Rattle.area_rules.specs.Places.{length_of_line, length_of_data}
+use Rattle.refusal_rules.specs.Answers.{gives, size_says}
+use Rattle.area_rules.specs.Places.{length_of_line}
 use Rattle.area_rules.proofs.Places.{line_length_exactly}
 use Rattle.area_rules.proofs.Sizes.{lines_most}
-use borrow.Author.Rules.{rules}
 use Rattle.area_places.proofs.data_length.Goals as goal
 
 -- the length of a line that was found

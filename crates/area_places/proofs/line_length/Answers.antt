@@ -8,7 +8,6 @@ use Rattle.refusal_rules.proofs.Tables.{by_table, pass_hold}
 use Rattle.area_rules.specs.Bounds.{area_bounded}
 use Rattle.area_rules.specs.Places.{length_of_line}
 use Rattle.area_rules.proofs.Bounds.{area_bounds}
-use borrow.Author.Rules.{rules}
 use Rattle.area_places.proofs.line_length.Goals as goal
 
 verdict_at_After_line_length_in : (c : goal.After-line_length_in) → let a = c.args in c.check.result ≡ first_fault (rule (area_bounded a.layout) 7 0 ∷ [])

@@ -7,7 +7,6 @@ use Rattle.refusal_rules.specs.Rules.{first_fault, chained}
 use Rattle.refusal_rules.proofs.Tables.{by_table, pass_hold}
 use Rattle.area_rules.specs.Places.{line_rules, line_start_of}
 use Rattle.area_rules.proofs.Tables.{lines-hold}
-use borrow.Author.Rules.{rules}
 use Rattle.area_places.proofs.line_start.Goals as goal
 
 verdict_at_After_line_at : (c : goal.After-line_at)

@@ -3,8 +3,7 @@
 use mathlib.Core.Path.{◌≡◌}
 use native.Mathlib.Omega.{arith}
 use Rattle.area_rules.specs.Samples.{line_start}
-use Rattle.area_rules.proofs.Sizes.{lines_most, before_most, bytes_most}
-use borrow.Author.Rules.{rules}
+use Rattle.area_rules.proofs.Sizes.{lines_most, bytes_most}
 use Rattle.area_places.proofs.sample_address.Goals as goal
 
 pub overflow_add-result : goal.overflow_add-result

@@ -1,14 +1,11 @@
 -- `area_places::sample_place` meets its contract: the slot, and then the verdict on line and element, pick the answer.
 -- Assumes nothing.
 use mathlib.Core.Path.{sym, ap, ◌∙◌}
-use Prim.Native.Nat.{ℕ}
 use native.Mathlib.Omega.{arith}
-use Rattle.refusal_rules.specs.Answers.{gives, number_says, place}
+use Rattle.refusal_rules.specs.Answers.{number_says}
 use Rattle.refusal_rules.proofs.Tables.{pass_hold}
 use Rattle.area_rules.proofs.Bands.{named_slot-inside}
-use Rattle.area_rules.specs.Places.{sample_place}
 use Rattle.area_rules.proofs.Tables.{samples_hold}
-use borrow.Author.Rules.{rules}
 use Rattle.area_places.proofs.sample_place.Goals as goal
 
 pub sample_address-requires : goal.sample_address-requires

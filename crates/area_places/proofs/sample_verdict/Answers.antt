@@ -3,7 +3,6 @@
 use Rattle.refusal_rules.specs.Rules.{chained}
 use Rattle.refusal_rules.proofs.Tables.{by_table}
 use Rattle.area_rules.specs.Places.{sample_rules}
-use borrow.Author.Rules.{rules}
 use Rattle.area_places.proofs.sample_verdict.Goals as goal
 
 pub returns : goal.returns

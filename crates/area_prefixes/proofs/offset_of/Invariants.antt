@@ -1,10 +1,8 @@
 -- `area_prefixes::offset_of` meets its contract: after i turns the sum is that of the first i lengths.
 -- Assumes nothing.
-use mathlib.Core.Path.{◌≡◌, refl, sym, ap, ◌∙◌}
-use Prim.Native.Nat.{◌-◌, ◌≤◌, zero-le}
-use native.Mathlib.Omega.{arith}
+use mathlib.Core.Path.{◌≡◌}
+use Prim.Native.Nat.{◌-◌, ◌≤◌}
 use Rattle.lists.specs.Segments.{segment_offset}
-use Rattle.lists.proofs.Segments.{segment_next, segment_inside}
 use Rattle.area_prefixes.proofs.offset_of.Given as goal
 
 abbrev pub invariant-loop-i : goal.invariant-loop-i

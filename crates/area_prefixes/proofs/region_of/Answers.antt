@@ -15,7 +15,6 @@ use Rattle.span_rules.specs.Spans.{span}
 use Rattle.span_rules.specs.declared.Span.{Span}
 use Rattle.area_part_rules.specs.Regions.{region_rules, region_of}
 use Rattle.area_part_rules.proofs.Regions.{region_hold}
-use borrow.Author.Rules.{rules}
 use Rattle.area_prefixes.proofs.region_of.Goals as goal
 
 verdict_at_After_struct_known_in_Value_1 : (c : goal.After-struct_known-in-Value-1)

@@ -1,12 +1,10 @@
 -- `bands::has_band` meets its contract: a band within bounds has a bit, which is set or not.
 -- Assumes nothing.
-use mathlib.Core.Path.{sym, ap, ◌∙◌}
+use mathlib.Core.Path.{sym, ◌∙◌}
 use Prim.Native.Nat.{◌≤◌}
 use native.Mathlib.Omega.{arith}
-use lib.Dec.{eqb}
 use Rattle.refusal_rules.specs.Tests.{within}
 use Rattle.refusal_rules.proofs.Exactness.{within_exactly}
-use borrow.Author.Rules.{rules}
 use Rattle.bands.proofs.has_band.Goals as goal
 
 -- the bounds of a band that has a bit

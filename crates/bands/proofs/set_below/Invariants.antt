@@ -1,12 +1,8 @@
 -- `bands::set_below` meets its contract. The loop's invariant: i is at most n, and the count is that of the bits below i.
 -- Assumes nothing.
-use mathlib.Core.Path.{◌≡◌, ap, ◌∙◌}
+use mathlib.Core.Path.{◌≡◌}
 use Prim.Native.Nat.{◌-◌, ◌≤◌}
-use native.Mathlib.Numerals.{add-one}
-use native.Mathlib.Omega.{arith}
-use borrow.Author.Rules.{rules}
 use Rattle.area_rules.specs.Bands.{set_below}
-use Rattle.area_rules.proofs.Bands.{bit_most, below_most}
 use Rattle.bands.proofs.set_below.Given as goal
 
 abbrev pub invariant-loop-i : goal.invariant-loop-i

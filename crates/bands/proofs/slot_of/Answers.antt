@@ -5,7 +5,6 @@ use mathlib.Core.List.{[], ◌∷◌}
 use lib.Dec.{ltb}
 use Rattle.refusal_rules.specs.Rules.{rule, first_fault, chained}
 use Rattle.refusal_rules.proofs.Tables.{by_table}
-use borrow.Author.Rules.{rules}
 use Rattle.bands.proofs.slot_of.Goals as goal
 
 verdict_at_In_Fault : (c : goal.In-Fault) → let s = c.in-Slot.slot in

@@ -7,7 +7,6 @@ use Rattle.refusal_rules.specs.Rules.{first_fault, chained}
 use Rattle.refusal_rules.proofs.Tables.{by_table, pass_hold}
 use Rattle.area_rules.specs.Bands.{second_map, band_rules, band_slot}
 use Rattle.area_rules.proofs.Bands.{HasBand, band_exactly}
-use borrow.Author.Rules.{rules}
 use Rattle.bands.proofs.slot_of_band.Goals as goal
 
 verdict_at_After_set_below_in_Pass : (c : goal.After-set_below-in-Pass)

@@ -3,8 +3,7 @@
 use mathlib.Core.Path.{◌≡◌, ap, ap₂, ◌∙◌}
 use Prim.Native.Nat.{◌<◌}
 use native.Mathlib.Omega.{arith}
-use borrow.Author.Rules.{rules}
-use Rattle.calendar_rules.specs.Gregorian.{leap, days_before, month_of, date_in}
+use Rattle.calendar_rules.specs.Gregorian.{leap, days_before, month_of}
 use Rattle.calendar_rules.proofs.Months.{month_lies}
 use Rattle.calendar.proofs.date_in.Goals as goal
 

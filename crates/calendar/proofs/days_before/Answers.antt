@@ -1,6 +1,5 @@
 -- `calendar::days_before` meets its contract: the table's rule, at the entry that is read.
 -- Assumes nothing.
-use borrow.Author.Rules.{rules}
 use Rattle.calendar_rules.proofs.Months.{common_entry, leap-entry}
 use Rattle.calendar.proofs.days_before.Goals as goal
 

@@ -1,10 +1,8 @@
 -- `calendar::month_of` meets its contract. The loop goes down from December: no month after the one it is at begins before the day
 -- ends.
 -- Assumes nothing.
-use mathlib.Core.Path.{◌≡◌, refl, sym, ap, ◌∙◌}
-use Prim.Native.Nat.{◌≤◌}
+use mathlib.Core.Path.{sym, ◌∙◌}
 use native.Mathlib.Omega.{arith}
-use Rattle.calendar_rules.specs.Gregorian.{last_before}
 use Rattle.calendar_rules.proofs.Months.{last_here, last_back}
 use Rattle.calendar.proofs.month_of.Goals as goal
 

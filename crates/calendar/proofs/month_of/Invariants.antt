@@ -1,11 +1,9 @@
 -- `calendar::month_of` meets its contract. The loop goes down from December: no month after the one it is at begins before the day
 -- ends.
 -- Assumes nothing.
-use mathlib.Core.Path.{◌≡◌, refl, sym, ap, ◌∙◌}
+use mathlib.Core.Path.{◌≡◌}
 use Prim.Native.Nat.{◌≤◌}
-use native.Mathlib.Omega.{arith}
 use Rattle.calendar_rules.specs.Gregorian.{last_before}
-use Rattle.calendar_rules.proofs.Months.{last_here, last_back}
 use Rattle.calendar.proofs.month_of.Given as goal
 
 abbrev pub invariant-loop-month : goal.invariant-loop-month

@@ -4,7 +4,6 @@ use mathlib.Core.Path.{◌≡◌, sym, ◌∙◌}
 use Prim.Native.Nat.{ℕ}
 use lib.Dec.{leb, leb-zero}
 use lib.IntN.{pos}
-use borrow.Author.Rules.{rules}
 use Rattle.refusal_rules.specs.Rules.{rule, first, first_fault, chained}
 use Rattle.refusal_rules.proofs.Tables.{judge-holds, by_table}
 use Rattle.calendar_rules.specs.Times.{time_rules, time_of}

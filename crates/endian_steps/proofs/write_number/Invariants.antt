@@ -1,14 +1,11 @@
 -- `endian_steps::write_number` meets its contract. The loop goes from the least significant digit up: after k turns the low k bytes of the
 -- number stand at their place, and `left` is what is left of it.
 -- Assumes nothing.
-use mathlib.Core.Path.{◌≡◌, ap, ◌∙◌}
-use Prim.Native.Nat.{ℕ, ◌+◌, ◌-◌, ◌/◌, ◌^◌, ◌≤◌}
-use native.Mathlib.Omega.{arith}
-use lib.ListN.{length}
-use lib.Seq.{sets, length-sets}
+use mathlib.Core.Path.{◌≡◌}
+use Prim.Native.Nat.{◌+◌, ◌-◌, ◌/◌, ◌^◌, ◌≤◌}
+use lib.Seq.{sets}
 use Rattle.endian_rules.specs.Numbers.{encode}
-use Rattle.endian_rules.proofs.Numbers.{position-inside}
-use Rattle.endian_rules.proofs.Places.{low_start, written_none, written_more, written_all, left_more}
+use Rattle.endian_rules.proofs.Places.{low_start}
 use Rattle.endian_steps.proofs.write_number.Given as goal
 
 abbrev pub invariant-loop-k : goal.invariant-loop-k

@@ -1,13 +1,12 @@
 -- `extent_steps::highest_end` meets its contract: the highest end so far is that of the slots before the one that the loop is at.
 -- Assumes nothing.
-use mathlib.Core.Path.{◌≡◌, refl, ap, ◌∙◌}
-use mathlib.Core.Logic.{⊎_elim}
-use Prim.Native.Nat.{ℕ, ◌+◌, ◌-◌, ◌≤◌}
+use mathlib.Core.Path.{ap}
+use Prim.Native.Nat.{◌-◌}
 use native.Mathlib.Omega.{arith}
 use lib.ListN.{length}
 use Rattle.endian_rules.specs.Words.{word_at}
-use Rattle.extent_rules.specs.Stretches.{extent_end, highest_end}
-use Rattle.extent_rules.proofs.Slots.{slot-inside, highest_taken, highest_left}
+use Rattle.extent_rules.specs.Stretches.{extent_end}
+use Rattle.extent_rules.proofs.Slots.{slot-inside}
 use Rattle.extent_steps.proofs.highest_end.Goals as goal
 
 pub overflow_add-end : goal.overflow_add-end

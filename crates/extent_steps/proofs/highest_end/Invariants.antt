@@ -1,13 +1,9 @@
 -- `extent_steps::highest_end` meets its contract: the highest end so far is that of the slots before the one that the loop is at.
 -- Assumes nothing.
-use mathlib.Core.Path.{◌≡◌, refl, ap, ◌∙◌}
-use mathlib.Core.Logic.{⊎_elim}
-use Prim.Native.Nat.{ℕ, ◌+◌, ◌-◌, ◌≤◌}
-use native.Mathlib.Omega.{arith}
-use lib.ListN.{length}
+use mathlib.Core.Path.{◌≡◌}
+use Prim.Native.Nat.{◌+◌, ◌-◌, ◌≤◌}
 use Rattle.endian_rules.specs.Words.{word_at}
-use Rattle.extent_rules.specs.Stretches.{extent_end, highest_end}
-use Rattle.extent_rules.proofs.Slots.{slot-inside, highest_taken, highest_left}
+use Rattle.extent_rules.specs.Stretches.{highest_end}
 use Rattle.extent_steps.proofs.highest_end.Given as goal
 
 abbrev pub invariant-loop-k : goal.invariant-loop-k

@@ -1,17 +1,13 @@
 -- `extent_steps::lowest_free` meets its contract: the words from p up to the one that the loop is at are not free, and each turn goes on behind the grid that
 -- has that word.
 -- Assumes nothing.
-use mathlib.Core.Path.{◌≡◌, sym}
-use mathlib.Core.Bool.{true, false}
+use mathlib.Core.Path.{◌≡◌}
+use mathlib.Core.Bool.{false}
 use Prim.Native.Nat.{ℕ, ◌-◌, ◌/◌, ◌≤◌, ◌<◌}
-use native.Mathlib.Decide.{dec_lt}
-use native.Mathlib.Omega.{arith}
 use lib.ListN.{length}
-use Rattle.lists.proofs.Lowest.{lowest_exactly}
 use Rattle.endian_rules.specs.Words.{word_at}
 use Rattle.extent_rules.specs.Stretches.{is_free}
 use Rattle.extent_rules.specs.Steps.{past_grid}
-use Rattle.extent_rules.proofs.Slots.{accepted_slots, PastIs, past_is}
 use Rattle.extent_steps.proofs.lowest_free.Given as goal
 
 abbrev pub invariant-loop-at : goal.invariant-loop-at

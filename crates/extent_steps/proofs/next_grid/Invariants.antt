@@ -1,12 +1,9 @@
 -- `extent_steps::next_grid` meets its contract: the next start so far is that of a grid of the slots before the one that the loop is at.
 -- Assumes nothing.
-use mathlib.Core.Path.{◌≡◌, refl, sym, ap, ◌∙◌}
-use mathlib.Core.Logic.{⊎_elim}
-use Prim.Native.Nat.{ℕ, ◌-◌, ◌≤◌}
-use native.Mathlib.Omega.{arith}
+use mathlib.Core.Path.{◌≡◌}
+use Prim.Native.Nat.{◌-◌, ◌≤◌}
 use Rattle.endian_rules.specs.Words.{word_at}
 use Rattle.extent_rules.specs.Steps.{next_grid}
-use Rattle.extent_rules.proofs.Slots.{next_taken, next_left}
 use Rattle.extent_steps.proofs.next_grid.Given as goal
 
 abbrev pub invariant-loop-k : goal.invariant-loop-k

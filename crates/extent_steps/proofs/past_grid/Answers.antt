@@ -1,14 +1,12 @@
 -- `extent_steps::past_grid` meets its contract: the end so far is that of a grid of the slots before the one that the loop is at.
 -- Assumes nothing.
-use mathlib.Core.Path.{◌≡◌, refl, sym, ap, ◌∙◌}
-use mathlib.Core.Logic.{⊎_elim}
-use Prim.Native.Nat.{ℕ, ◌-◌, ◌≤◌}
+use mathlib.Core.Path.{ap}
+use Prim.Native.Nat.{◌-◌}
 use native.Mathlib.Omega.{arith}
 use lib.ListN.{length}
 use Rattle.endian_rules.specs.Words.{word_at}
 use Rattle.extent_rules.specs.Stretches.{extent_end}
-use Rattle.extent_rules.specs.Steps.{past_grid}
-use Rattle.extent_rules.proofs.Slots.{slot-inside, past_taken, past_left}
+use Rattle.extent_rules.proofs.Slots.{slot-inside}
 use Rattle.extent_steps.proofs.past_grid.Goals as goal
 
 pub overflow_add-end : goal.overflow_add-end

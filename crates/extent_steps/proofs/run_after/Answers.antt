@@ -2,7 +2,6 @@
 -- Assumes nothing.
 use Prim.Native.Nat.{◌+◌, ◌/◌}
 use lib.ListN.{length}
-use borrow.Author.Rules.{rules}
 use Rattle.endian_rules.specs.Words.{word_at}
 use Rattle.extent_rules.proofs.Slots.{accepted_slots, run_found}
 use Rattle.extent_steps.proofs.run_after.Goals as goal

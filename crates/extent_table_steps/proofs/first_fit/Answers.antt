@@ -1,7 +1,6 @@
 -- `extent_table_steps::first_fit` meets its contract: it takes no more places than the table has.
 -- Assumes nothing.
-use Rattle.std.proofs.Common.{◌≡◌, ◌<◌, length, arith, rules}
-use Rattle.extent_rules.specs.Rooms.{lesser}
+use Rattle.std.proofs.Common.{◌<◌, length, arith, rules}
 use Rattle.extent_rules.proofs.Fit.{lesser-within}
 use Rattle.extent_table_steps.proofs.first_fit.Goals as goal
 

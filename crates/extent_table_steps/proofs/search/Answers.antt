@@ -1,6 +1,6 @@
 -- `extent_table_steps::search` meets its contract: the table that is searched has as many places as are filled.
 -- Assumes nothing.
-use Rattle.std.proofs.Common.{◌≡◌, ◌≤◌, length, arith}
+use Rattle.std.proofs.Common.{◌≤◌, length, arith}
 use Rattle.extent_rules.proofs.Fit.{lesser_count}
 use Rattle.extent_table_steps.proofs.search.Goals as goal
 

@@ -1,7 +1,6 @@
 -- `fresh_layout::grid_of` meets its contract: a fresh layout is what its kind says of it, and a stale one is refused with 9.
 -- Assumes nothing.
 use mathlib.Core.Path.{sym, ap, ◌∙◌}
-use borrow.Author.Rules.{rules}
 use Rattle.grid_rules.specs.Opening.{grid_says}
 use Rattle.grid_rules.specs.declared.GridOpening.TheVariants.{Refused}
 use Rattle.layout_rules.specs.Found.{as_grid}

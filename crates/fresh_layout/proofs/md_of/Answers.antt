@@ -1,7 +1,6 @@
 -- `fresh_layout::md_of` meets its contract: a fresh layout is what its kind says of it, and a stale one is refused with 9.
 -- Assumes nothing.
 use mathlib.Core.Path.{sym, ap, ◌∙◌}
-use borrow.Author.Rules.{rules}
 use Rattle.md_rules.specs.Opening.{md_says}
 use Rattle.md_rules.specs.declared.MdOpening.TheVariants.{Refused}
 use Rattle.layout_rules.specs.Found.{as_md}

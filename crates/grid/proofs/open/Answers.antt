@@ -1,7 +1,6 @@
 -- `grid::open` meets its contract: opening goes by the file's verdict.
 -- Assumes nothing.
 use mathlib.Core.Path.{sym, ◌∙◌}
-use borrow.Author.Rules.{rules}
 use Rattle.refusal_rules.specs.declared.Verdict.TheVariants.{Pass, Fault}
 use Rattle.grid_rules.specs.Opening.{open_grid}
 use Rattle.grid_rules.proofs.Acceptance.{open_split}

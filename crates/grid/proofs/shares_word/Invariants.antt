@@ -1,13 +1,10 @@
 -- `grid::shares_word` meets its contract: no slot before the one that the loop is at has a word of the stretch.
 -- Assumes nothing.
-use mathlib.Core.Path.{◌≡◌, refl, sym, ap, ◌∙◌}
+use mathlib.Core.Path.{◌≡◌}
 use mathlib.Core.Bool.{false}
 use Prim.Native.Nat.{◌-◌, ◌≤◌}
-use native.Mathlib.Numerals.{add-one}
-use native.Mathlib.Omega.{arith}
 use Rattle.endian_rules.specs.Words.{word_at}
 use Rattle.grid_rules.specs.Rules.{shares}
-use Rattle.grid_rules.proofs.Slots.{each_passes, shares_at}
 use Rattle.grid.proofs.shares_word.Given as goal
 
 abbrev pub invariant-loop-j : goal.invariant-loop-j

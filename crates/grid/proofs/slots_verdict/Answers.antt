@@ -1,15 +1,11 @@
 -- `grid::slots_verdict` meets its contract: all slots before the one that the loop is at have passed.
 -- Assumes nothing.
-use mathlib.Core.Path.{◌≡◌, refl, sym, ap, ◌∙◌}
-use Prim.Native.Nat.{◌-◌, ◌≤◌}
+use mathlib.Core.Path.{sym, ◌∙◌}
+use Prim.Native.Nat.{◌-◌}
 use native.Mathlib.Numerals.{add-one}
 use native.Mathlib.Omega.{arith}
-use borrow.Author.Rules.{rules}
 use Rattle.endian_rules.specs.Words.{word_at}
-use Rattle.refusal_rules.specs.Rules.{first_fault}
-use Rattle.refusal_rules.specs.declared.Verdict.TheVariants.{Pass}
 use Rattle.refusal_rules.proofs.Tables.{pass_both}
-use Rattle.grid_rules.specs.Rules.{slots_rules}
 use Rattle.grid_rules.proofs.Slots.{slots_more, fault_at}
 use Rattle.grid.proofs.slots_verdict.Goals as goal
 

@@ -3,7 +3,6 @@
 use mathlib.Core.Path.{sym, ap, ◌∙◌}
 use Rattle.grid_rules.specs.Opening.{grid_says}
 use Rattle.layout_rules.proofs.OneKind.{grid_known}
-use borrow.Author.Rules.{rules}
 use Rattle.grid_copies.proofs.copy_by_rows.Goals as goal
 
 pub copy_rows-requires : goal.copy_rows-requires

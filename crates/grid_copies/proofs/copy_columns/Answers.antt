@@ -1,8 +1,6 @@
 -- `grid_copies::copy_columns` meets its contract: the columns are lines of words at equal distances, all inside the file.
 -- Assumes nothing.
-use native.Mathlib.Omega.{arith}
-use Rattle.grid_part_rules.proofs.Lines.{copied-same, columns-lines, columns_copyable}
-use borrow.Author.Rules.{rules}
+use Rattle.grid_part_rules.proofs.Lines.{copied-same, columns-lines}
 use Rattle.grid_copies.proofs.copy_columns.Goals as goal
 
 pub returns : goal.returns

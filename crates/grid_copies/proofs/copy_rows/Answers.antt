@@ -1,8 +1,6 @@
 -- `grid_copies::copy_rows` meets its contract: the rows are lines of words at equal distances, all inside the file.
 -- Assumes nothing.
-use native.Mathlib.Omega.{arith}
-use Rattle.grid_part_rules.proofs.Lines.{copied-same, rows-lines, rows_copyable}
-use borrow.Author.Rules.{rules}
+use Rattle.grid_part_rules.proofs.Lines.{copied-same, rows-lines}
 use Rattle.grid_copies.proofs.copy_rows.Goals as goal
 
 pub returns : goal.returns

@@ -1,15 +1,11 @@
 -- `grid_places::point_place` meets its contract: the verdict picks the answer.
 -- Assumes nothing.
-use mathlib.Core.Path.{◌≡◌, sym, ap, ◌∙◌}
-use Prim.Native.Nat.{ℕ}
+use mathlib.Core.Path.{◌≡◌, sym, ◌∙◌}
 use native.Mathlib.Omega.{arith}
-use Rattle.refusal_rules.specs.Answers.{gives, word_place}
 use Rattle.refusal_rules.proofs.Tables.{pass_hold}
 use Rattle.grid_rules.specs.Points.{point_word}
-use Rattle.grid_rules.specs.Places.{point_place}
 use Rattle.grid_rules.proofs.Sizes.{points_most}
 use Rattle.grid_rules.proofs.Tables.{points_hold}
-use borrow.Author.Rules.{rules}
 use Rattle.grid_places.proofs.point_place.Goals as goal
 
 pub point_word-requires : goal.point_word-requires

@@ -4,7 +4,6 @@ use Rattle.refusal_rules.specs.Rules.{chained}
 use Rattle.refusal_rules.proofs.Tables.{by_table}
 use Rattle.grid_rules.specs.Bounds.{grid_bounded}
 use Rattle.grid_rules.specs.Places.{point_rules}
-use borrow.Author.Rules.{rules}
 use Rattle.grid_places.proofs.point_verdict.Goals as goal
 
 pub returns : goal.returns

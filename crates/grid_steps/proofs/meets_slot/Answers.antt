@@ -1,12 +1,9 @@
 -- `grid_steps::meets_slot` meets its contract. The size of a grid is read where the slot is not empty: its checks have passed, so that the header
 -- is inside the file.
 -- Assumes nothing.
-use mathlib.Core.Path.{sym, ◌∙◌}
+use mathlib.Core.Path.{◌∙◌}
 use native.Mathlib.Omega.{arith}
-use borrow.Author.Tests.{eq-eqb, ne_eqb}
-use borrow.Author.Rules.{rules}
 use Rattle.endian_rules.specs.Words.{word_at}
-use Rattle.grid_rules.specs.Rules.{meets}
 use Rattle.grid_rules.specs.Accepts.{AcceptsGridSlot}
 use Rattle.grid_rules.proofs.Slots.{slot_exactly}
 use Rattle.grid_steps.proofs.meets_slot.Goals as goal

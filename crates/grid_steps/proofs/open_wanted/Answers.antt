@@ -1,16 +1,12 @@
 -- `grid_steps::open_wanted` meets its contract. The file is accepted, so that the directory and the header of each grid are inside it.
 -- Assumes nothing.
-use mathlib.Core.Path.{◌≡◌, sym, ◌∙◌}
+use mathlib.Core.Path.{◌≡◌, ◌∙◌}
 use Prim.Native.Nat.{◌+◌, ◌*◌, ◌≤◌}
 use native.Mathlib.Omega.{arith}
 use lib.ListN.{length}
-use borrow.Author.Tests.{not-true, not-false, eq-eqb, ne_eqb}
-use borrow.Author.Rules.{rules}
 use Rattle.endian_rules.specs.Words.{word_at}
-use Rattle.refusal_rules.specs.Rules.{judge, first, first_fault}
 use Rattle.refusal_rules.proofs.Exactness.{within_exactly}
-use Rattle.grid_rules.specs.Rules.{empty_slot, wanted_rules}
-use Rattle.grid_rules.specs.Opening.{grid_layout_of, open_wanted}
+use Rattle.grid_rules.specs.Rules.{empty_slot}
 use Rattle.grid_rules.proofs.Acceptance.{file_passes, number-grid}
 use Rattle.grid_rules.proofs.Slots.{accepted_room}
 use Rattle.grid_steps.proofs.open_wanted.Goals as goal

@@ -3,7 +3,6 @@
 use mathlib.Core.Path.{◌≡◌, sym, ◌∙◌}
 use Prim.Native.Nat.{◌<◌}
 use native.Mathlib.Omega.{arith}
-use borrow.Author.Rules.{rules}
 use Rattle.endian_rules.specs.Words.{word_at}
 use Rattle.refusal_rules.specs.Rules.{first, first_fault, chained}
 use Rattle.refusal_rules.specs.declared.Verdict.TheVariants.{Pass, Fault}

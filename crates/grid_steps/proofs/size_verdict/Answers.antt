@@ -1,9 +1,5 @@
 -- `grid_steps::size_verdict` meets its contract: the chain of checks is the table of rules.
 -- Assumes nothing.
-use Prim.Native.Nat.{◌≤◌}
-use native.Mathlib.Nat.{mul-le-mul}
-use native.Mathlib.Omega.{arith}
-use borrow.Author.Rules.{rules}
 use Rattle.refusal_rules.specs.Rules.{chained}
 use Rattle.refusal_rules.proofs.Tables.{by_table}
 use Rattle.grid_rules.specs.Rules.{size_rules}

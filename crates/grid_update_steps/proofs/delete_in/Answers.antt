@@ -5,7 +5,6 @@ use mathlib.Core.List.{List}
 use Prim.Native.Nat.{ℕ, ◌+◌, ◌<◌}
 use native.Mathlib.Omega.{arith}
 use lib.ListN.{length}
-use borrow.Author.Rules.{rules}
 use Rattle.endian_rules.specs.Words.{word_at}
 use Rattle.refusal_rules.specs.Rules.{first_fault}
 use Rattle.refusal_rules.specs.declared.Verdict.TheVariants.{Pass}
@@ -16,7 +15,7 @@ use Rattle.extent_rules.proofs.Slots.{accepted_slots}
 use Rattle.grid_update_rules.specs.Updates.{set_word, next_free_set, delete_rules, without_grid}
 use Rattle.grid_update_rules.proofs.Deleted.{delete_passes, deleted_slots, deleted-small, deleted_accepted}
 use Rattle.grid_update_rules.specs.Steps.{delete_step}
-use Rattle.grid_update_rules.proofs.Verdicts.{step_pass, step_fault}
+use Rattle.grid_update_rules.proofs.Verdicts.{step_pass}
 use Rattle.grid_update_steps.proofs.delete_in.Goals as goal
 
 -- what is known where the rules have passed

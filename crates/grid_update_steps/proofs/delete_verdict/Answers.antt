@@ -9,7 +9,6 @@ use Rattle.refusal_rules.proofs.Exactness.{within_exactly}
 use Rattle.refusal_rules.proofs.Tables.{pass_hold, by_table}
 use Rattle.extent_rules.specs.Steps.{GridAccepted}
 use Rattle.extent_rules.proofs.Slots.{accepted_slots}
-use borrow.Author.Rules.{rules}
 use Rattle.grid_update_rules.proofs.Verdicts.{heads, delete_file, delete_heads, delete_slot}
 use Rattle.grid_update_steps.proofs.delete_verdict.Goals as goal
 

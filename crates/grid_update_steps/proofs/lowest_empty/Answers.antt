@@ -5,11 +5,10 @@ use mathlib.Core.Bool.{true, false}
 use Prim.Native.Nat.{ℕ, ◌+◌, ◌-◌, ◌≤◌, ◌<◌}
 use native.Mathlib.Omega.{arith}
 use lib.ListN.{length}
-use borrow.Author.Tests.{eq-eqb, ne_eqb}
+use borrow.Author.Tests.{eq-eqb}
 use Rattle.lists.proofs.Lowest.{lowest_exactly}
 use Rattle.endian_rules.specs.Words.{word_at}
 use Rattle.grid_rules.specs.Rules.{empty_slot, is_empty_slot}
-use Rattle.grid_rules.proofs.Slots.{below_more}
 use Rattle.extent_rules.specs.Steps.{SlotsInside}
 use Rattle.extent_rules.proofs.Slots.{accepted_slots}
 use Rattle.grid_update_rules.specs.Updates.{lowest_empty}

@@ -1,14 +1,12 @@
 -- `grid_update_steps::plan_add` meets its contract.
 -- Assumes nothing.
 use mathlib.Core.Path.{◌≡◌, sym, ap, ◌∙◌}
-use Prim.Native.Nat.{◌*◌, ◌≤◌, ◌<◌}
-use native.Mathlib.Nat.{mul-le-mul}
+use Prim.Native.Nat.{◌<◌}
 use native.Mathlib.Omega.{arith}
-use borrow.Author.Rules.{rules}
 use Rattle.endian_rules.specs.Words.{word_at}
 use Rattle.refusal_rules.specs.Rules.{first_fault}
 use Rattle.refusal_rules.specs.declared.Verdict.TheVariants.{Pass}
-use Rattle.extent_rules.specs.Steps.{GridAccepted, survey}
+use Rattle.extent_rules.specs.Steps.{survey}
 use Rattle.extent_rules.specs.declared.Survey.{Survey}
 use Rattle.extent_rules.proofs.Slots.{accepted_slots}
 use Rattle.grid_update_rules.specs.Updates.{lowest_empty, add_rules}

@@ -1,10 +1,7 @@
 -- `grid_update_steps::write_bytes` meets its contract: after i turns the first i bytes are stored.
 -- Assumes nothing.
-use mathlib.Core.Path.{◌≡◌, refl, ap, ◌∙◌}
+use mathlib.Core.Path.{refl}
 use Prim.Native.Nat.{◌-◌}
-use native.Mathlib.Omega.{arith}
-use lib.ListN.{length, take}
-use lib.Seq.{sets, length-sets, take_all}
 use Rattle.grid_update_rules.proofs.Bytes.{element-behind}
 use Rattle.grid_update_steps.proofs.write_bytes.Goals as goal
 

@@ -1,11 +1,9 @@
 -- `grid_update_steps::write_bytes` meets its contract: after i turns the first i bytes are stored.
 -- Assumes nothing.
-use mathlib.Core.Path.{◌≡◌, refl, ap, ◌∙◌}
+use mathlib.Core.Path.{◌≡◌}
 use Prim.Native.Nat.{◌-◌}
-use native.Mathlib.Omega.{arith}
-use lib.ListN.{length, take}
-use lib.Seq.{sets, length-sets, take_all}
-use Rattle.grid_update_rules.proofs.Bytes.{element-behind}
+use lib.ListN.{take}
+use lib.Seq.{sets}
 use Rattle.grid_update_steps.proofs.write_bytes.Given as goal
 
 abbrev pub invariant-loop-i : goal.invariant-loop-i

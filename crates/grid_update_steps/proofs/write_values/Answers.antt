@@ -1,16 +1,11 @@
 -- `grid_update_steps::write_values` meets its contract: after i turns the first i words are stored.
 -- Assumes nothing.
-use mathlib.Core.Path.{◌≡◌, refl, ap, ◌∙◌}
-use mathlib.Core.List.{map}
+use mathlib.Core.Path.{ap, ◌∙◌}
 use Prim.Native.Nat.{◌+◌, ◌-◌, ◌*◌}
-use native.Mathlib.Omega.{arith}
 use lib.IntN.{ℤ, pos}
-use lib.ListN.{length, get_or, take}
-use lib.Seq.{sets, length-sets, take_all}
-use mir.Syntax.{w32}
-use mir.Val.{of_z}
+use lib.ListN.{get_or}
+use lib.Seq.{sets}
 use Rattle.endian_rules.specs.Words.{encode_signed}
-use Rattle.endian_rules.specs.Files.{bytes_of}
 use Rattle.endian_rules.proofs.Signs.{same_word}
 use Rattle.grid_update_rules.proofs.Bytes.{signed-behind}
 use Rattle.grid_update_steps.proofs.write_values.Goals as goal

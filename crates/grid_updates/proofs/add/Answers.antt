@@ -1,8 +1,7 @@
 -- `grid_updates::add` meets its contract: the table holds the free stretches of the file while it is searched, and those of the file with the grid in the end.
 -- Assumes nothing.
-use Rattle.std.proofs.Common.{◌≡◌, ℕ, ◌≤◌, List, length, ap, subst, sym}
+use Rattle.std.proofs.Common.{List, length, ap}
 use Rattle.extent_rules.specs.declared.Extent.{Extent}
-use Rattle.grid_update_rules.specs.Steps.{Ready}
 use Rattle.grid_update_rules.proofs.Calls.{plan_may_fill, plan_ready, add_may_fill, add_done}
 use Rattle.grid_updates.proofs.add.Goals as goal
 

@@ -2,7 +2,6 @@
 -- Assumes nothing.
 use mathlib.Core.Path.{◌≡◌, sym, ◌∙◌}
 use native.Mathlib.Omega.{arith}
-use borrow.Author.Rules.{rules}
 use Rattle.refusal_rules.specs.Rules.{first_fault}
 use Rattle.extent_rules.specs.Steps.{GridAccepted}
 use Rattle.extent_rules.proofs.Slots.{accepted_slots}

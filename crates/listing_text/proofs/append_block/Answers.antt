@@ -2,7 +2,6 @@
 -- Assumes nothing.
 use Rattle.listing_rules.specs.Page.{block_line}
 use Rattle.listing_rules.proofs.Appending.{append_four}
-use borrow.Author.Rules.{rules}
 use Rattle.listing_text.proofs.append_block.Goals as goal
 
 pub returns : goal.returns

@@ -1,14 +1,10 @@
 -- `listing_text::append_blocks` meets its contract: the text with the lines of the blocks from an index on is the text with all of them.
 -- Assumes nothing.
-use mathlib.Core.Path.{◌≡◌, refl, ◌∙◌}
+use mathlib.Core.Path.{◌≡◌}
 use Prim.Native.Nat.{◌-◌, ◌≤◌}
-use native.Mathlib.Omega.{arith}
-use lib.ListN.{length, take, drop}
-use lib.Seq.{get_or-take, length-take-le}
+use lib.ListN.{take, drop}
 use Rattle.listing_rules.specs.Page.{block_lines}
 use Rattle.listing_rules.specs.Steps.{append_bytes}
-use Rattle.listing_rules.specs.declared.BlockList.{BlockList}
-use Rattle.listing_rules.proofs.Appending.{append_block, append_no_block}
 use Rattle.listing_text.proofs.append_blocks.Given as goal
 
 abbrev pub invariant-loop-i : goal.invariant-loop-i

@@ -2,7 +2,6 @@
 -- Assumes nothing.
 use Rattle.listing_rules.specs.Page.{layout_lines}
 use Rattle.listing_rules.proofs.Appending.{append_seven}
-use borrow.Author.Rules.{rules}
 use Rattle.listing_text.proofs.append_layout.Goals as goal
 
 pub returns : goal.returns

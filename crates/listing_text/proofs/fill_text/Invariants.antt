@@ -1,12 +1,10 @@
 -- `listing_text::fill_text` meets its contract: after i turns the first i places hold the first i bytes of the text.
 -- Assumes nothing.
-use mathlib.Core.Path.{◌≡◌, refl, ap, ◌∙◌}
+use mathlib.Core.Path.{◌≡◌}
 use mathlib.Core.List.{◌++◌}
 use Prim.Native.Nat.{◌-◌, ◌≤◌}
-use native.Mathlib.Omega.{arith}
-use lib.ListN.{length, get_or, set, drop, length-set}
+use lib.ListN.{length, get_or, drop}
 use Rattle.lists.specs.Lists.{list_of}
-use Rattle.lists.proofs.Filled.{filled_more, filled_all}
 use Rattle.listing_text.proofs.fill_text.Given as goal
 
 abbrev pub invariant-loop-i : goal.invariant-loop-i

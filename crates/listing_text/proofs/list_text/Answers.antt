@@ -1,11 +1,10 @@
 -- `listing_text::list_text` meets its contract: the text is the listing, and it is copied where the output has a place for each byte.
 -- Assumes nothing.
-use mathlib.Core.Path.{◌≡◌, sym, ap, ◌∙◌}
+use mathlib.Core.Path.{◌≡◌, ap, ◌∙◌}
 use mathlib.Core.List.{List}
 use Prim.Native.Nat.{ℕ}
 use native.Mathlib.Omega.{arith}
 use lib.ListN.{get_or, length-take}
-use lib.Seq.{length-take-le}
 use Rattle.lists.specs.Lists.{list_of}
 use Rattle.refusal_rules.specs.Answers.{gives}
 use Rattle.copy_rules.specs.Runs.{copied}
@@ -15,7 +14,6 @@ use Rattle.listing_rules.specs.Steps.{empty_text, append_bytes}
 use Rattle.listing_rules.specs.declared.Text.{Text}
 use Rattle.listing_rules.proofs.Appending.{TextIs, text_is, text_list_of}
 use Rattle.listing_rules.proofs.Page.{listing_most}
-use borrow.Author.Rules.{rules}
 use Rattle.listing_text.proofs.list_text.Goals as goal
 
 module _ (f : List ℕ) {t : Text} (e : t ≡ append_bytes empty_text (listing_text f)) where

@@ -15,7 +15,6 @@ use Rattle.listing_rules.specs.Steps.{empty_text, append_bytes}
 use Rattle.listing_rules.specs.declared.BlockList.{BlockList}
 use Rattle.listing_rules.proofs.Appending.{append_more, append_three}
 use Rattle.listing_rules.proofs.Page.{listing_six, listing_said, listing_too_long}
-use borrow.Author.Rules.{rules}
 use Rattle.listing_text.proofs.text_of.Goals as goal
 
 -- the text of a file that is short enough, by what opening it answers

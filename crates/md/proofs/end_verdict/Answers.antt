@@ -5,8 +5,7 @@ use native.Mathlib.Omega.{arith}
 use Rattle.refusal_rules.specs.Rules.{chained}
 use Rattle.refusal_rules.proofs.Tables.{by_chain}
 use Rattle.md_rules.specs.Rules.{md_end_rules}
-use Rattle.md_rules.proofs.Verdicts.{pass_counted, data_records, data_words}
-use borrow.Author.Rules.{rules}
+use Rattle.md_rules.proofs.Verdicts.{pass_counted, data_words}
 use Rattle.md.proofs.end_verdict.Goals as goal
 
 data-small : (c : goal.After-read_word-end)

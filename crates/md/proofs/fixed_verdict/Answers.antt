@@ -3,7 +3,6 @@
 use Rattle.refusal_rules.specs.Rules.{chained}
 use Rattle.refusal_rules.proofs.Tables.{by_chain}
 use Rattle.md_rules.specs.Rules.{md_fixed_rules}
-use borrow.Author.Rules.{rules}
 use Rattle.md.proofs.fixed_verdict.Goals as goal
 
 pub returns : goal.returns

@@ -3,7 +3,6 @@
 use mathlib.Core.Path.{sym, ◌∙◌}
 use Rattle.refusal_rules.specs.Rules.{first}
 use Rattle.md_rules.proofs.Verdicts.{long-file}
-use borrow.Author.Rules.{rules}
 use Rattle.md.proofs.md_verdict.Goals as goal
 
 pub returns-in-Fault : goal.returns-in-Fault

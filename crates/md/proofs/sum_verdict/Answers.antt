@@ -1,12 +1,8 @@
 -- `md::sum_verdict` meets its contract: the chain of rules is the table, and counts within their bounds have small products.
 -- Assumes nothing.
-use Prim.Native.Nat.{◌*◌, ◌≤◌}
-use native.Mathlib.Omega.{arith}
 use Rattle.refusal_rules.specs.Rules.{chained}
 use Rattle.refusal_rules.proofs.Tables.{by_table}
 use Rattle.md_rules.specs.Rules.{md_sum_rules}
-use Rattle.md_rules.proofs.Verdicts.{pass_counted, row-words, column-words}
-use borrow.Author.Rules.{rules}
 use Rattle.md.proofs.sum_verdict.Goals as goal
 
 pub returns : goal.returns

@@ -1,10 +1,8 @@
 -- `md_keys::find_in` meets its contract: no position before the one that the loop is at has the name.
 -- Assumes nothing.
-use mathlib.Core.Path.{sym, ◌∙◌}
 use Prim.Native.Nat.{◌+◌, ◌-◌, ◌≤◌}
-use native.Mathlib.Omega.{arith}
 use Rattle.md_part_rules.specs.Keys.{is_named}
-use Rattle.md_part_rules.proofs.Names.{NoneBelow, none_more, name_found, name_none, name_other}
+use Rattle.md_part_rules.proofs.Names.{NoneBelow}
 use Rattle.md_keys.proofs.find_in.Given as goal
 
 abbrev pub invariant-loop-position : goal.invariant-loop-position

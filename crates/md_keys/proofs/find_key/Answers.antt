@@ -3,7 +3,6 @@
 use mathlib.Core.Path.{sym, ap, ◌∙◌}
 use Rattle.md_rules.specs.Opening.{md_says}
 use Rattle.layout_rules.proofs.OneKind.{md_known}
-use borrow.Author.Rules.{rules}
 use Rattle.md_keys.proofs.find_key.Goals as goal
 
 pub find_in-requires : goal.find_in-requires

@@ -2,7 +2,6 @@
 -- Assumes nothing.
 use native.Mathlib.Omega.{arith}
 use Rattle.md_part_rules.proofs.Names.{four_same}
-use borrow.Author.Rules.{rules}
 use Rattle.md_keys.proofs.is_named.Goals as goal
 
 pub returns : goal.returns

@@ -1,15 +1,11 @@
 -- `md_places::field_place` meets its contract: the verdict picks the answer.
 -- Assumes nothing.
-use mathlib.Core.Path.{◌≡◌, sym, ap, ◌∙◌}
-use Prim.Native.Nat.{ℕ}
+use mathlib.Core.Path.{◌≡◌, sym, ◌∙◌}
 use native.Mathlib.Omega.{arith}
-use Rattle.refusal_rules.specs.Answers.{gives, word_place}
 use Rattle.refusal_rules.proofs.Tables.{pass_hold}
 use Rattle.md_rules.specs.Fields.{field_word}
-use Rattle.md_rules.specs.Places.{field_place}
 use Rattle.md_rules.proofs.Sizes.{field_most}
 use Rattle.md_rules.proofs.Tables.{fields_hold}
-use borrow.Author.Rules.{rules}
 use Rattle.md_places.proofs.field_place.Goals as goal
 
 pub field_word-requires : goal.field_word-requires

@@ -7,7 +7,6 @@ use Rattle.refusal_rules.specs.Tests.{within}
 use Rattle.refusal_rules.proofs.Tables.{by_chain, first_fault-append}
 use Rattle.md_rules.specs.Fields.{fields_of}
 use Rattle.md_rules.specs.Places.{part_rules, field_rules}
-use borrow.Author.Rules.{rules}
 use Rattle.md_places.proofs.field_verdict.Goals as goal
 
 pub returns : goal.returns

@@ -5,7 +5,6 @@ use Prim.Native.Nat.{ℕ, ◌+◌, ◌-◌}
 use native.Mathlib.Omega.{arith}
 use Rattle.md_rules.specs.Places.{part_word}
 use Rattle.md_rules.proofs.Sizes.{part_most, field_in_part}
-use borrow.Author.Rules.{rules}
 use Rattle.md_places.proofs.field_word.Goals as goal
 
 pub overflow_add-result : goal.overflow_add-result

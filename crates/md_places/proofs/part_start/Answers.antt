@@ -1,11 +1,8 @@
 -- `md_places::part_start` meets its contract: the verdict picks the answer.
 -- Assumes nothing.
-use mathlib.Core.Path.{sym, ap, ◌∙◌}
-use Rattle.refusal_rules.specs.Answers.{gives}
+use mathlib.Core.Path.{sym, ◌∙◌}
 use Rattle.refusal_rules.proofs.Tables.{pass_hold}
-use Rattle.md_rules.specs.Places.{part_start_of}
 use Rattle.md_rules.proofs.Tables.{parts_hold}
-use borrow.Author.Rules.{rules}
 use Rattle.md_places.proofs.part_start.Goals as goal
 
 pub part_word-requires : goal.part_word-requires

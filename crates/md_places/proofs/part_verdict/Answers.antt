@@ -3,7 +3,6 @@
 use Rattle.refusal_rules.specs.Rules.{chained}
 use Rattle.refusal_rules.proofs.Tables.{by_table}
 use Rattle.md_rules.specs.Places.{part_rules}
-use borrow.Author.Rules.{rules}
 use Rattle.md_places.proofs.part_verdict.Goals as goal
 
 pub returns : goal.returns

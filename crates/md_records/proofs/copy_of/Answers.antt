@@ -6,7 +6,6 @@ use Rattle.copy_rules.proofs.Copies.{counted_over, counted_short}
 use Rattle.md_part_rules.specs.Records.{record_fields, IsRecord, record_in}
 use Rattle.md_part_rules.proofs.Fills.{record_holds}
 use Rattle.md_part_rules.proofs.Records.{record_length}
-use borrow.Author.Rules.{rules}
 use Rattle.md_records.proofs.copy_of.Goals as goal
 
 -- there is such a record

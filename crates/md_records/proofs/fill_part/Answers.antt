@@ -4,7 +4,6 @@ use mathlib.Core.Path.{◌≡◌}
 use native.Mathlib.Omega.{arith}
 use Rattle.md_rules.specs.Places.{part_word}
 use Rattle.md_part_rules.proofs.Fills.{part-words, part-inside, part-small, part_started, part_granted}
-use borrow.Author.Rules.{rules}
 use Rattle.md_records.proofs.fill_part.Goals as goal
 
 -- where the part begins

@@ -6,7 +6,6 @@ use native.Mathlib.Omega.{arith}
 use lib.ListN.{length}
 use lib.Seq.{length-take-le}
 use Rattle.md_part_rules.proofs.Fills.{row_fields, column-room, data_room, record_over}
-use borrow.Author.Rules.{rules}
 use Rattle.md_records.proofs.fill_record.Goals as goal
 
 -- the three parts have room

@@ -3,7 +3,6 @@
 use Rattle.refusal_rules.specs.Rules.{chained}
 use Rattle.refusal_rules.proofs.Tables.{by_table}
 use Rattle.md_part_rules.specs.Records.{record_rules}
-use borrow.Author.Rules.{rules}
 use Rattle.md_records.proofs.record_verdict.Goals as goal
 
 pub returns : goal.returns

@@ -1,14 +1,9 @@
 -- `number_copy_steps::copy_numbers` meets its contract: the run is copied where the output has a place for each of its numbers.
 -- Assumes nothing.
-use mathlib.Core.Path.{sym}
 use Prim.Native.Nat.{ℕ}
-use native.Mathlib.Omega.{arith}
-use lib.ListN.{length-take}
-use lib.Seq.{length-take-le}
 use Rattle.endian_rules.specs.Numbers.{number_at}
-use Rattle.copy_rules.proofs.Copies.{listed-over, listed_short}
+use Rattle.copy_rules.proofs.Copies.{listed_short}
 use Rattle.copy_rules.proofs.Runs.{element}
-use borrow.Author.Rules.{rules}
 use Rattle.number_copy_steps.proofs.copy_numbers.Goals as goal
 
 -- the numbers of the run, each by its index

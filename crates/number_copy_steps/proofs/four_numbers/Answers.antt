@@ -3,7 +3,6 @@
 use Rattle.endian_rules.specs.Numbers.{number_at}
 use Rattle.endian_rules.specs.declared.Order.TheVariants.{Big}
 use Rattle.copy_rules.proofs.Runs.{four_stored}
-use borrow.Author.Rules.{rules}
 use Rattle.number_copy_steps.proofs.four_numbers.Goals as goal
 
 pub returns : goal.returns

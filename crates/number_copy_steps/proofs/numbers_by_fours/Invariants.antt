@@ -1,10 +1,9 @@
 -- `number_copy_steps::numbers_by_fours` meets its contract: the invariant is that the first i places hold the first i numbers. The rest is filled one by one.
 -- Assumes nothing.
 use Prim.Native.Nat.{◌+◌, ◌-◌, ◌*◌, ◌^◌, ◌<◌}
-use native.Mathlib.Omega.{arith}
 use Rattle.endian_rules.specs.Numbers.{number_at}
 use Rattle.endian_rules.specs.declared.Order.TheVariants.{Big}
-use Rattle.copy_rules.proofs.Runs.{Filled, none_filled, inside_further, four_filled, rest_inside, rest_filled}
+use Rattle.copy_rules.proofs.Runs.{Filled}
 use Rattle.number_copy_steps.proofs.numbers_by_fours.Given as goal
 
 abbrev pub invariant-loop-i : goal.invariant-loop-i

@@ -1,9 +1,7 @@
 -- `number_copy_steps::numbers_singly` meets its contract: after i turns the first i places hold the first i numbers.
 -- Assumes nothing.
 use Prim.Native.Nat.{◌-◌}
-use native.Mathlib.Omega.{arith}
-use Rattle.endian_rules.specs.Numbers.{number_at}
-use Rattle.copy_rules.proofs.Runs.{Filled, none_filled, one_filled, all_filled}
+use Rattle.copy_rules.proofs.Runs.{none_filled, one_filled}
 use Rattle.number_copy_steps.proofs.numbers_singly.Goals as goal
 
 pub loop-i-init : goal.loop-i-init

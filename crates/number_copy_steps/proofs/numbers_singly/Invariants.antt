@@ -1,9 +1,8 @@
 -- `number_copy_steps::numbers_singly` meets its contract: after i turns the first i places hold the first i numbers.
 -- Assumes nothing.
 use Prim.Native.Nat.{◌-◌}
-use native.Mathlib.Omega.{arith}
 use Rattle.endian_rules.specs.Numbers.{number_at}
-use Rattle.copy_rules.proofs.Runs.{Filled, none_filled, one_filled, all_filled}
+use Rattle.copy_rules.proofs.Runs.{Filled}
 use Rattle.number_copy_steps.proofs.numbers_singly.Given as goal
 
 abbrev pub invariant-loop-i : goal.invariant-loop-i

@@ -3,7 +3,6 @@
 use mathlib.Core.Path.{sym, ◌∙◌}
 use Rattle.layout_rules.proofs.Freshness.{found_told, stale_told}
 use Rattle.value_rules.specs.Places.{place_of}
-use borrow.Author.Rules.{rules}
 use Rattle.reads.proofs.place_in.Goals as goal
 
 pub returns-then-is_fresh : goal.returns-then-is_fresh

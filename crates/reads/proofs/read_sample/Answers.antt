@@ -1,11 +1,8 @@
 -- `reads::read_sample` meets its contract: the number at the place is read, and a refusal is passed on.
 -- Assumes nothing.
 use mathlib.Core.Path.{sym, ap, ◌∙◌}
-use Rattle.endian_rules.specs.Numbers.{number_at}
-use Rattle.refusal_rules.specs.Answers.{gives, place_says}
-use Rattle.value_rules.specs.Reading.{read_sample}
+use Rattle.refusal_rules.specs.Answers.{place_says}
 use Rattle.value_rules.proofs.Reading.{read-inside}
-use borrow.Author.Rules.{rules}
 use Rattle.reads.proofs.read_sample.Goals as goal
 
 pub read_number-requires : goal.read_number-requires

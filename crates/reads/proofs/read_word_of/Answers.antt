@@ -1,13 +1,8 @@
 -- `reads::read_word_of` meets its contract: the word at the place is read, and a refusal is passed on.
 -- Assumes nothing.
-use mathlib.Core.Path.{◌≡◌, sym, ap, ◌∙◌}
-use mir.Syntax.{w32}
-use mir.Val.{to_z, of_z}
-use Rattle.endian_rules.specs.Words.{signed_at}
-use Rattle.refusal_rules.specs.Answers.{gives, place_says}
-use Rattle.value_rules.specs.Reading.{read_word}
+use mathlib.Core.Path.{sym, ap, ◌∙◌}
+use Rattle.refusal_rules.specs.Answers.{place_says}
 use Rattle.value_rules.proofs.Reading.{word_inside}
-use borrow.Author.Rules.{rules}
 use Rattle.reads.proofs.read_word_of.Goals as goal
 
 pub read_signed-requires : goal.read_signed-requires

@@ -2,10 +2,7 @@
 -- Assumes nothing.
 use mathlib.Core.Path.{sym, ap, ◌∙◌}
 use Rattle.refusal_rules.specs.Answers.{place_says}
-use Rattle.store_theory.specs.Plans.{outcome}
 use Rattle.value_rules.proofs.Reading.{place-room}
-use Rattle.store_rules.specs.Stores.{put_at}
-use borrow.Author.Rules.{rules}
 use Rattle.stores.proofs.store.Goals as goal
 
 pub put-requires : goal.put-requires

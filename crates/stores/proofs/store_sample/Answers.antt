@@ -3,7 +3,6 @@
 use mathlib.Core.Path.{sym, ◌∙◌}
 use Rattle.store_rules.specs.Stores.{sample}
 use Rattle.store_rules.proofs.Single.{store_by_place}
-use borrow.Author.Rules.{rules}
 use Rattle.stores.proofs.store_sample.Goals as goal
 
 pub returns : goal.returns

@@ -6,7 +6,6 @@ use Rattle.listing_rules.specs.Page.{labelled}
 use Rattle.listing_rules.specs.Steps.{append_bytes}
 use Rattle.listing_rules.proofs.Appending.{append_more}
 use Rattle.texts.proofs.Digits.{fewest_decimal}
-use borrow.Author.Rules.{rules}
 use Rattle.texts.proofs.append_number.Goals as goal
 
 pub returns : goal.returns

@@ -8,7 +8,6 @@ use lib.ListN.{length}
 use Rattle.copy_rules.specs.Runs.{lines_at}
 use Rattle.copy_rules.proofs.Copies.{counted_over, counted_short}
 use Rattle.copy_rules.proofs.Runs.{length-lines_at}
-use borrow.Author.Rules.{rules}
 use Rattle.word_copy_steps.proofs.copy_lines.Goals as goal
 
 -- what is copied

@@ -4,8 +4,7 @@ use Prim.Native.Nat.{◌+◌, ◌-◌, ◌*◌, ◌≤◌}
 use native.Mathlib.Omega.{arith}
 use lib.ListN.{length}
 use Rattle.lists.proofs.Rows.{row-before}
-use Rattle.endian_rules.specs.Words.{signed_at}
-use Rattle.copy_rules.proofs.Runs.{LinesFilled, no_line_filled, line_length_lem, line_filled, lines-over}
+use Rattle.copy_rules.proofs.Runs.{no_line_filled, line_filled}
 use Rattle.word_copy_steps.proofs.fill_lines.Goals as goal
 
 -- a line has room in the output

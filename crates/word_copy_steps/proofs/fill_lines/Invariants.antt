@@ -1,11 +1,8 @@
 -- `word_copy_steps::fill_lines` meets its contract: after k turns the first places hold the first k lines.
 -- Assumes nothing.
 use Prim.Native.Nat.{◌+◌, ◌-◌, ◌*◌, ◌≤◌}
-use native.Mathlib.Omega.{arith}
-use lib.ListN.{length}
-use Rattle.lists.proofs.Rows.{row-before}
 use Rattle.endian_rules.specs.Words.{signed_at}
-use Rattle.copy_rules.proofs.Runs.{LinesFilled, no_line_filled, line_length_lem, line_filled, lines-over}
+use Rattle.copy_rules.proofs.Runs.{LinesFilled}
 use Rattle.word_copy_steps.proofs.fill_lines.Given as goal
 
 abbrev pub invariant-loop-k : goal.invariant-loop-k

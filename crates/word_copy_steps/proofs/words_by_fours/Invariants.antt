@@ -1,10 +1,9 @@
 -- `word_copy_steps::words_by_fours` meets its contract: the invariant is that the first i places hold the first i words. The rest is filled one by one.
 -- Assumes nothing.
 use Prim.Native.Nat.{◌+◌, ◌-◌, ◌*◌, ◌^◌, ◌<◌}
-use native.Mathlib.Omega.{arith}
 use Rattle.endian_rules.specs.Words.{signed_at}
 use Rattle.endian_rules.specs.declared.Order.TheVariants.{Big}
-use Rattle.copy_rules.proofs.Runs.{Filled, none_filled, inside_further, four_filled, rest_inside, rest_filled}
+use Rattle.copy_rules.proofs.Runs.{Filled}
 use Rattle.word_copy_steps.proofs.words_by_fours.Given as goal
 
 abbrev pub invariant-loop-i : goal.invariant-loop-i

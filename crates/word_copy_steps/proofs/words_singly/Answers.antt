@@ -3,9 +3,8 @@
 use mathlib.Core.Path.{◌∙◌}
 use Prim.Native.Nat.{◌-◌}
 use native.Mathlib.Omega.{arith}
-use Rattle.endian_rules.specs.Words.{signed_at}
 use Rattle.endian_rules.proofs.Signs.{same_word}
-use Rattle.copy_rules.proofs.Runs.{Filled, none_filled, one_filled, all_filled}
+use Rattle.copy_rules.proofs.Runs.{none_filled, one_filled, all_filled}
 use Rattle.word_copy_steps.proofs.words_singly.Goals as goal
 
 pub loop-i-init : goal.loop-i-init

@@ -1,11 +1,8 @@
 -- `word_copy_steps::words_singly` meets its contract: after i turns the first i places hold the first i words.
 -- Assumes nothing.
-use mathlib.Core.Path.{◌∙◌}
 use Prim.Native.Nat.{◌-◌}
-use native.Mathlib.Omega.{arith}
 use Rattle.endian_rules.specs.Words.{signed_at}
-use Rattle.endian_rules.proofs.Signs.{same_word}
-use Rattle.copy_rules.proofs.Runs.{Filled, none_filled, one_filled, all_filled}
+use Rattle.copy_rules.proofs.Runs.{Filled}
 use Rattle.word_copy_steps.proofs.words_singly.Given as goal
 
 abbrev pub invariant-loop-i : goal.invariant-loop-i
