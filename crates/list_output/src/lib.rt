@@ -10,7 +10,7 @@ use refusal_rules::SizeAnswer;
 use std::io;
 use std::io::Write;
 
-// Writes the listing of an AREA file to a writer, and answers how many bytes it has handed to the write: all of the listing's. A write that fails is the error.
+// Writes the listing of an AREA file to a writer, and answers how many bytes it has handed to the write: all of the listing's. A write that fails is the only error.
 fn write_listing<W: Write>(out: &mut W, file: &[u8]) -> io::Result<usize>
     ensures count { IfOk result (λ n. n ≡ length (listing_text file.now)) }
     ensures bytes { OnOk result (Appends (W.contents out.old) (W.contents out.new)
@@ -27,8 +27,8 @@ fn write_listing<W: Write>(out: &mut W, file: &[u8]) -> io::Result<usize>
     }
 }
 
-// Writes the listing of an AREA file to standard output, and answers how many bytes it has handed to the write: all of the listing's. A write that fails is the
-// error, and standard output may then have the first bytes of the listing.
+// Writes the listing of an AREA file to standard output, and answers how many bytes it has handed to the write: all of the listing's. A write that fails is
+// the only error: nothing that is lent changes, and standard output may have the first bytes of the listing.
 pub fn print_listing(rt: &impl Print, file: &[u8]) -> io::Result<usize>
     ensures { IfOk result (λ n. n ≡ length (listing_text file.now)) }
 {
