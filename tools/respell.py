@@ -7,7 +7,7 @@ usage: python3 tools/respell.py LANDED [NAMES]
 
 A name of the older spelling (fileLeft, keep-append, After-callee) gets its words joined by '_'; a dash stays between two names of definitions, as in
 'length-list_of'. A lemma that would have the name of a definition gets '_lem' after it. Names of src/ (functions, fields, variants) stay. The script goes over
-crates/*/specs, crates/*/proofs and the clauses of crates/*/src; over the edits in must-fail/ and the pages it is run by respell_texts.py.
+crates/*/specs, crates/*/proofs and the clauses of crates/*/src; over the edits in must-fail/ and the pages it is run by respell_edits.py.
 """
 
 import collections

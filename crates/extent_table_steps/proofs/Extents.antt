@@ -1,9 +1,9 @@
 -- What a walk wants of the types of this crate's parameters and answers: `extent_rules::Extent`, of which a table is a slice, and `endian_rules::Order`.
 --     value, values, tells, lawful, makes      an extent's machine value, alone and as a list, and what is known of it
 --     ToldExtent                               a call has answered with the machine value of an extent
---     order_value, makes-order                 an order's machine value, and what it owns
+--     order_value, makes_order                 an order's machine value, and what it owns
 --     told                                     an extent that has this machine value is related to the one that is written out
---     an-order, an-extent                      an order and an extent as parameters
+--     an_order, an_extent                      an order and an extent as parameters
 -- Assumes nothing.
 use mathlib.Core.Path.{refl}
 use mathlib.Core.List.{List, [], ◌∷◌}

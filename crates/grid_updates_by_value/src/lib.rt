@@ -20,14 +20,14 @@ pub const SHORT_PLACES: usize = 4;
 
 // What telling the free stretches or deleting a grid answers, and the table: the free stretches of the file stand in its first places, as many as the answer says,
 // and the places past them have start 0 and length 0; after a refusal all have.
-#[derive(Drop)]
+#[derive(Clone, Copy)]
 pub struct StretchTable {
     pub answer: SizeAnswer,
     pub table: [Extent; PLACES],
 }
 
 // What adding a grid answers, and the table, as in `StretchTable`.
-#[derive(Drop)]
+#[derive(Clone, Copy)]
 pub struct Addition {
     pub answer: AddAnswer,
     pub table: [Extent; PLACES],
@@ -35,14 +35,14 @@ pub struct Addition {
 
 // What deleting a grid answers, and the table that was given: the free stretches of the file stand in its first places, as many as the answer says, and the places
 // past them are as they were given; after a refusal all are.
-#[derive(Drop)]
+#[derive(Clone, Copy)]
 pub struct ShortStretchTable {
     pub answer: SizeAnswer,
     pub table: [Extent; SHORT_PLACES],
 }
 
 // What adding a grid answers, and the table that was given, as in `ShortStretchTable`.
-#[derive(Drop)]
+#[derive(Clone, Copy)]
 pub struct ShortAddition {
     pub answer: AddAnswer,
     pub table: [Extent; SHORT_PLACES],

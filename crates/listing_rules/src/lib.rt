@@ -12,21 +12,21 @@ pub struct Entry {
 }
 
 // The blocks of a file, at most six of them: the first `count` entries. The others are blank: the directory, at 0, with no bytes.
-#[derive(Drop)]
+#[derive(Clone, Copy)]
 pub struct BlockList {
     pub count: usize,
     pub entries: [Entry; 6],
 }
 
 // What a listing says of a file: what opening it answers, and its blocks, none where it is refused.
-#[derive(Drop)]
+#[derive(Clone, Copy)]
 pub struct Listing {
     pub opening: AreaOpening,
     pub blocks: BlockList,
 }
 
 // A text that bytes are appended to: its first `count` bytes. There is room for 512, and no listing has more than 439.
-#[derive(Drop)]
+#[derive(Clone, Copy)]
 pub struct Text {
     pub count: usize,
     pub bytes: [u8; 512],

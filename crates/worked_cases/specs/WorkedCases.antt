@@ -1,5 +1,5 @@
 -- The cases that document 01, "Worked files", marks to be proved, all of them, each with its text, and some more. They are stated of what the contracts of the public
--- calls cite: opening (openArea, openGrid, openMd), the place of a named value (place_in), the extent of a block (blockSpan) and of a prefix region (regionSpan).
+-- calls cite: opening (open_area, open_grid, open_md), the place of a named value (place_in), the extent of a block (block_span) and of a prefix region (region_span).
 -- Assumes nothing.
 use Rattle.std.specs.Prelude.{◌≡◌, take}
 use Rattle.endian_rules.specs.declared.Order.TheVariants.{Big}

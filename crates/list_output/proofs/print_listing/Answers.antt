@@ -1,0 +1,9 @@
+-- `list_output::print_listing` meets its contract: the listing fits 512 places, so it is never refused.
+-- Assumes nothing.
+use Rattle.std.proofs.Common.{sym, replicate, arith}
+use Rattle.refusal_rules.proofs.Answers.{gives-refuses}
+use Rattle.listing_rules.proofs.Page.{listing_fits}
+use Rattle.list_output.proofs.print_listing.Goals as goal
+
+pub returns-in-Refused : goal.returns-in-Refused
+returns-in-Refused g c = gives-refuses (sym (listing_fits c.args.file.now (replicate 512 0) c.in-Refused.ensures (omega arith)).0)
