@@ -3,7 +3,7 @@
 #![tactic(auto)]
 
 ghost use Rattle.std.specs.Prelude.{◌≡◌, ◌≤◌};
-ghost use Rattle.refusal_rules.specs.Answers.{size_says, place_says};
+ghost use Rattle.refusal_rules.specs.Answers.{says, verdict_of};
 ghost use Rattle.refusal_rules.specs.Rules.{first_fault};
 ghost use Rattle.area_rules.specs.Bounds.{area_bounded, AreaBounds};
 ghost use Rattle.area_rules.specs.Samples.{line_length_in, line_start, sample_address};
@@ -13,7 +13,7 @@ use area_rules::{AreaLayout, SlotOrBand};
 use area_steps::line_bytes;
 use bands::slot_of;
 use refusal::{and, check};
-use refusal_rules::{NO_SUCH, NumberAnswer, Place, PlaceAnswer, SizeAnswer, Verdict};
+use refusal_rules::{Place, Refusal};
 
 // Whether the fields that AREA addresses are computed from are within the bounds that opening sets.
 #[tactic(auto, unfolding(area_rules::specs::Bounds::area_bounded))]
@@ -37,27 +37,21 @@ fn line_length_in(layout: AreaLayout) -> usize
 
 // How many bytes a line of an AREA file has, its prefix among them. Refused with 7 where the layout is above the bounds that opening sets.
 #[tactic(auto, unfolding(refusal_rules::specs::Rules::chained, area_rules::specs::Places::length_of_line))]
-pub fn line_length(layout: AreaLayout) -> SizeAnswer
-    ensures { size_says result ≡ length_of_line layout }
+pub fn line_length(layout: AreaLayout) -> Result<usize, Refusal>
+    ensures { says result ≡ length_of_line layout }
 {
-    match check(Verdict::Pass, area_bounded(layout), NO_SUCH, 0) {
-        Verdict::Fault(refusal) => SizeAnswer::Refused(refusal),
-        Verdict::Pass => SizeAnswer::Value(line_length_in(layout)),
-    }
+    check(area_bounded(layout), Refusal::NoSuch)?;
+    Ok(line_length_in(layout))
 }
 
 // How many bytes DATA of an AREA file has: those of all its lines. Refused as `line_length`.
 #[tactic(auto, unfolding(area_rules::specs::Places::length_of_data))]
-pub fn data_length(layout: AreaLayout) -> SizeAnswer
-    ensures { size_says result ≡ length_of_data layout }
+pub fn data_length(layout: AreaLayout) -> Result<usize, Refusal>
+    ensures { says result ≡ length_of_data layout }
 {
-    match line_length(layout) {
-        SizeAnswer::Refused(refusal) => SizeAnswer::Refused(refusal),
-        SizeAnswer::Value(line) => {
-            let length = layout.lines as usize * line;
-            SizeAnswer::Value(length)
-        }
-    }
+    let line = line_length(layout)?;
+    let length = layout.lines as usize * line;
+    Ok(length)
 }
 
 // The byte at which a line begins, with its prefix.
@@ -71,14 +65,12 @@ fn line_at(layout: AreaLayout, line: u32) -> usize
 // The byte at which a line of an AREA file begins, with its prefix, the line counted from 0. Refused with 7 where there is no such line, or the layout is above the
 // bounds that opening sets.
 #[tactic(auto, unfolding(area_rules::specs::Places::line_rules, refusal_rules::specs::Rules::chained, area_rules::specs::Places::line_start_of))]
-pub fn line_start(layout: AreaLayout, line: u32) -> SizeAnswer
-    ensures { size_says result ≡ line_start_of layout line }
+pub fn line_start(layout: AreaLayout, line: u32) -> Result<usize, Refusal>
+    ensures { says result ≡ line_start_of layout line }
 {
-    let bounded = check(Verdict::Pass, area_bounded(layout), NO_SUCH, 0);
-    match check(bounded, line < layout.lines, NO_SUCH, 0) {
-        Verdict::Fault(refusal) => SizeAnswer::Refused(refusal),
-        Verdict::Pass => SizeAnswer::Value(line_at(layout, line)),
-    }
+    check(area_bounded(layout), Refusal::NoSuch)?;
+    check(line < layout.lines, Refusal::NoSuch)?;
+    Ok(line_at(layout, line))
 }
 
 // The byte at which the sample of a line, an element and a slot begins.
@@ -92,28 +84,26 @@ fn sample_address(layout: AreaLayout, line: u32, element: u32, slot: u32) -> usi
 
 // What the rules of a sample of a line and an element say: 7 where there is no such line or element.
 #[tactic(auto, unfolding(area_rules::specs::Places::sample_rules, refusal_rules::specs::Rules::chained))]
-fn sample_verdict(layout: AreaLayout, line: u32, element: u32) -> Verdict
-    ensures { result ≡ first_fault (sample_rules layout line element) }
+fn sample_verdict(layout: AreaLayout, line: u32, element: u32) -> Result<(), Refusal>
+    ensures { verdict_of result ≡ first_fault (sample_rules layout line element) }
 {
-    let bounded = check(Verdict::Pass, area_bounded(layout), NO_SUCH, 0);
-    let lines = check(bounded, line < layout.lines, NO_SUCH, 0);
-    check(lines, element < layout.elements, NO_SUCH, 0)
+    check(area_bounded(layout), Refusal::NoSuch)?;
+    check(line < layout.lines, Refusal::NoSuch)?;
+    check(element < layout.elements, Refusal::NoSuch)
 }
 
 // The place of a sample of an AREA file, named by line and element, both counted from 0, and slot or band. Refused with 4 at 19 where a band is named and the band
 // map is unusable, then with 7 where there is no such line, element, slot or band, or the layout is above the bounds that opening sets.
 #[tactic(auto, unfolding(area_rules::specs::Places::sample_place))]
-pub fn sample_place(layout: AreaLayout, line: u32, element: u32, which: SlotOrBand) -> PlaceAnswer
-    ensures { place_says result ≡ sample_place layout line element which }
+pub fn sample_place(layout: AreaLayout, line: u32, element: u32, which: SlotOrBand) -> Result<Place, Refusal>
+    ensures { says result ≡ sample_place layout line element which }
 {
-    match slot_of(layout, which) {
-        NumberAnswer::Refused(refusal) => PlaceAnswer::Refused(refusal),
-        NumberAnswer::Value(slot) => match sample_verdict(layout, line, element) {
-            Verdict::Fault(refusal) => PlaceAnswer::Refused(refusal),
-            Verdict::Pass => PlaceAnswer::At(Place {
+    let slot = slot_of(layout, which)?;
+    match sample_verdict(layout, line, element) {
+            Err(refusal) => Err(refusal),
+            Ok(()) => Ok(Place {
                 address: sample_address(layout, line, element, slot),
                 width: layout.width as usize,
             }),
-        },
-    }
+        }
 }

@@ -5,18 +5,19 @@ ghost use Rattle.std.specs.Prelude.{◌≡◌, ◌≤◌};
 ghost use Rattle.lists.specs.Segments.{total, segment_offset};
 ghost use Rattle.area_rules.specs.Blocks.{region_lengths, region_index, region_length, region_offset};
 ghost use Rattle.area_rules.specs.Samples.{AreaFits};
-ghost use Rattle.span_rules.specs.Spans.{span, span_says, lent_bytes, that_part};
+ghost use Rattle.span_rules.specs.Spans.{span, lent_bytes, that_part};
 ghost use Rattle.area_part_rules.specs.Regions.{region_of, region_span};
+ghost use Rattle.refusal_rules.specs.Answers.{says};
 
 use area_places::line_start;
-use area_rules::{AreaLayout, AreaOpening, Region};
+use area_rules::{AreaLayout, Region};
 use fresh_layout::area_of;
 use layout_rules::Layout;
 use prefix_lengths::validity_length;
 use refusal::check;
-use refusal_rules::{ABSENT, NO_SUCH, SizeAnswer, Verdict};
-use span_rules::{Span, SpanAnswer};
+use span_rules::Span;
 use span_steps::hand_back;
+use refusal_rules::Refusal;
 
 // The lengths of the regions of a line prefix, in their order.
 fn region_lengths(l: AreaLayout) -> [usize; 5]
@@ -73,33 +74,29 @@ fn region_in_prefix(l: AreaLayout, region: Region) -> Span
 
 // The span of a region of a line's prefix in an accepted file.
 #[tactic(auto, unfolding(area_part_rules::specs::Regions::region_rules, refusal_rules::specs::Rules::chained, area_part_rules::specs::Regions::region_of))]
-fn region_of(l: AreaLayout, line: u32, region: Region) -> SpanAnswer
+fn region_of(l: AreaLayout, line: u32, region: Region) -> Result<Span, Refusal>
     requires { AreaFits l }
-    ensures { span_says result ≡ region_of l line region }
+    ensures { says result ≡ region_of l line region }
 {
     let part = region_in_prefix(l, region);
-    let lines = check(Verdict::Pass, line < l.lines, NO_SUCH, 0);
-    match check(lines, part.length != 0, ABSENT, 0) {
-        Verdict::Fault(refusal) => SpanAnswer::Refused(refusal),
-        Verdict::Pass => match line_start(l, line) {
-            SizeAnswer::Refused(refusal) => SpanAnswer::Refused(refusal),
-            SizeAnswer::Value(start) => SpanAnswer::At(Span {
+    check(line < l.lines, Refusal::NoSuch)?;
+    check(part.length != 0, Refusal::Absent)?;
+    match line_start(l, line) {
+            Err(refusal) => Err(refusal),
+            Ok(start) => Ok(Span {
                 start: start + part.start,
                 length: part.length,
             }),
-        },
-    }
+        }
 }
 
 // Where a region of the prefix of a line, counted from 0, of an AREA file lies, or its padding: start and length in bytes. Refused with 9 where the layout is stale, then with
 // 7 where it is of another kind, then with 7 where there is no such line, then with 6 where the region has length 0.
-pub fn region_span(file: &[u8], layout: Layout, line: u32, region: Region) -> SpanAnswer
-    ensures { span_says result ≡ region_span file.now layout line region }
+pub fn region_span(file: &[u8], layout: Layout, line: u32, region: Region) -> Result<Span, Refusal>
+    ensures { says result ≡ region_span file.now layout line region }
 {
-    match area_of(file, layout) {
-        AreaOpening::Refused(refusal) => SpanAnswer::Refused(refusal),
-        AreaOpening::Opened(l) => region_of(l, line, region),
-    }
+    let l = area_of(file, layout)?;
+    region_of(l, line, region)
 }
 
 // A region of a line's prefix, handed back as that part of the file; empty where `region_span` refuses.

@@ -5,9 +5,8 @@ use mathlib.Core.Logic.{◌↔◌}
 use mathlib.Core.List.{List}
 use Prim.Native.Nat.{ℕ}
 use lib.ListN.{length}
-use Rattle.refusal_rules.specs.Rules.{FirstFailing}
+use Rattle.refusal_rules.specs.Rules.{FirstFailing, Refused}
 use Rattle.refusal_rules.specs.Answers.{gives, refuses}
-use Rattle.refusal_rules.specs.Rules.{Refused}
 use Rattle.refusal_rules.proofs.Answers.{value_exactly, refusal_exactly}
 use Rattle.area_rules.specs.Rules.{directory_of, word_in, area_order, area_rules}
 use Rattle.area_rules.specs.Opening.{area_layout_of, open_area_told, open_area}

@@ -2,12 +2,12 @@
 #![tactic(auto)]
 
 ghost use Rattle.std.specs.Prelude.{◌≡◌, ◌<◌, ◌≤◌};
-ghost use Rattle.refusal_rules.specs.Answers.{number_says};
+ghost use Rattle.refusal_rules.specs.Answers.{says};
 ghost use Rattle.area_rules.specs.Bands.{second_map, map_bit, set_below, has_band, band_slot, slot_of};
 
 use area_rules::{AreaLayout, SlotOrBand};
 use refusal::{check, within};
-use refusal_rules::{NO_SUCH, NumberAnswer, RULE_BROKEN, Verdict};
+use refusal_rules::Refusal;
 
 // The second word of the band map of so many bands, as it counts: 0 unless there are more than 32.
 pub fn second_map(bands: u32, map2: u32) -> u32
@@ -36,10 +36,8 @@ fn set_below(map: u32, map2: u32, n: u32) -> u32
     ensures { result ≡ set_below map map2 n }
 {
     let mut count: u32 = 0;
-    let mut i: u32 = 0;
-    while i < n {
+    for i in 0..n {
         count += map_bit(map, map2, i);
-        i += 1;
     }
     count
 }
@@ -57,30 +55,28 @@ fn has_band(map: u32, map2: u32, band: u32) -> bool
 
 // The slot of a band in a map of `bands` bands, of which the second word counts only where there are more than 32. Refused with 4 at 19 where the map has not that many
 // set bits, and with 7 where it has no such band.
-#[tactic(auto, unfolding(area_rules::specs::Bands::band_rules, refusal_rules::specs::Rules::chained, area_rules::specs::Bands::band_slot))]
-fn slot_of_band(map: u32, map2: u32, bands: u32, band: u32) -> NumberAnswer
-    ensures { number_says result ≡ band_slot map map2 bands band }
+#[tactic(auto, unfolding(area_rules::specs::Bands::band_rules, refusal_rules::specs::Rules::first_fault, refusal_rules::specs::Rules::first, area_rules::specs::Bands::band_slot))]
+fn slot_of_band(map: u32, map2: u32, bands: u32, band: u32) -> Result<u32, Refusal>
+    ensures { says result ≡ band_slot map map2 bands band }
 {
     let second = second_map(bands, map2);
     let usable = set_below(map, second, 64) == bands;
-    let by_map = check(Verdict::Pass, usable, RULE_BROKEN, 19);
-    match check(by_map, has_band(map, second, band), NO_SUCH, 0) {
-        Verdict::Fault(refusal) => NumberAnswer::Refused(refusal),
-        Verdict::Pass => NumberAnswer::Value(set_below(map, second, band - 1)),
-    }
+    check(usable, Refusal::RuleBroken(19))?;
+    check(has_band(map, second, band), Refusal::NoSuch)?;
+    Ok(set_below(map, second, band - 1))
 }
 
 // The slot that a slot or band of a layout means. Refused with 4 at 19 where a band is named and the band map is unusable, and with 7 where there is no such
 // slot or band.
-#[tactic(auto, unfolding(refusal_rules::specs::Rules::chained))]
-pub fn slot_of(layout: AreaLayout, which: SlotOrBand) -> NumberAnswer
-    ensures { number_says result ≡ slot_of layout which }
+#[tactic(auto, unfolding(refusal_rules::specs::Rules::first_fault, refusal_rules::specs::Rules::first))]
+pub fn slot_of(layout: AreaLayout, which: SlotOrBand) -> Result<u32, Refusal>
+    ensures { says result ≡ slot_of layout which }
 {
     match which {
-        SlotOrBand::Slot(slot) => match check(Verdict::Pass, slot < layout.bands, NO_SUCH, 0) {
-            Verdict::Fault(refusal) => NumberAnswer::Refused(refusal),
-            Verdict::Pass => NumberAnswer::Value(slot),
-        },
+        SlotOrBand::Slot(slot) => {
+            check(slot < layout.bands, Refusal::NoSuch)?;
+            Ok(slot)
+        }
         SlotOrBand::Band(band) => slot_of_band(layout.map, layout.map2, layout.bands, band),
     }
 }

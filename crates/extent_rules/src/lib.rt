@@ -2,14 +2,14 @@
 #![tactic(auto)]
 
 // So many words of a file, from a start on, counted from 0.
-#[derive(Clone, Copy)]
+#[derive(Clone, Copy, Debug, PartialEq, Eq)]
 pub struct Extent {
     pub start: usize,
     pub length: usize,
 }
 
 // The free stretches of a file: how many they are, and the last of them.
-#[derive(Clone, Copy)]
+#[derive(Clone, Copy, Debug, PartialEq, Eq)]
 pub struct Survey {
     pub count: usize,
     pub last: Extent,

@@ -29,7 +29,7 @@ use Rattle.store_rules.specs.Stores.{Store, Done, signed, point, plan_of, stores
 use Rattle.store_rules.proofs.Stores.{order_does_not_matter}
 use Rattle.store_rules.proofs.Single.{reads_back, done_at, word_done}
 use Rattle.grid_correction.specs.Corrections.{corrected_by, correct_point, store_of, two_say, correct_two}
-use Rattle.store_rules.proofs.Answers.{store_settled}
+use Rattle.refusal_rules.proofs.Answers.{says_settles}
 use Rattle.grid_correction.specs.declared.Correction.{Correction}
 use Rattle.grid_correction.specs.declared.TwoAnswers.{TwoAnswers}
 
@@ -38,8 +38,8 @@ pub two_settled : (x y : TwoAnswers) → two_say x ≡ two_say y → x ≡ y
 two_settled x y e =
     λ i.
     record {
-      first = store_settled x.first y.first (ap (λ (l : List Done). get_or l 0 (gives tt)) e) i;
-      second = store_settled x.second y.second (ap (λ (l : List Done). get_or l 1 (gives tt)) e) i;
+      first = says_settles x.first y.first (ap (λ (l : List Done). get_or l 0 (gives tt)) e) i;
+      second = says_settles x.second y.second (ap (λ (l : List Done). get_or l 1 (gives tt)) e) i;
     }
 
 -- a store of a point that can be read succeeds, and the point then reads the value

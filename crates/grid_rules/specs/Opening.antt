@@ -8,13 +8,6 @@ use Rattle.refusal_rules.specs.Answers.{Answer, gives, refuses, answered}
 use Rattle.refusal_rules.specs.Tests.{same_numbers}
 use Rattle.grid_rules.specs.Rules.{grid_file_rules, wanted_rules}
 use Rattle.grid_rules.specs.declared.GridLayout.{GridLayout}
-use Rattle.grid_rules.specs.declared.GridOpening.{GridOpening}
-use Rattle.grid_rules.specs.declared.GridOpening.TheVariants.{Opened, Refused}
-
--- what each case of the answer of opening a GRID file says
-abbrev pub grid_says : GridOpening → Answer GridLayout
-grid_says (Opened l) = gives l
-grid_says (Refused r) = refuses r.number r.place
 
 -- the layout of a grid that the words of a file of `len` bytes give: "grid number, offset, rows, columns"
 unfoldable pub grid_layout_of : Order → ℕ → (ℕ → ℕ) → ℕ → GridLayout

@@ -15,10 +15,8 @@ use Rattle.lists.proofs.Built.{length-list_of, get_or-list_of}
 use Rattle.lists.proofs.Filled.{length-over, over_front, over_again}
 use Rattle.endian_rules.specs.Words.{word_at}
 use Rattle.endian_rules.specs.declared.Order.{Order}
-use Rattle.refusal_rules.specs.Rules.{first_fault}
-use Rattle.refusal_rules.specs.Answers.{Answer, gives, refuses, size_says}
-use Rattle.refusal_rules.specs.declared.Verdict.{Verdict}
-use Rattle.refusal_rules.specs.declared.Verdict.TheVariants.{Pass, Fault}
+use Rattle.refusal_rules.specs.Rules.{first_fault, Verdict, Pass, Fault}
+use Rattle.refusal_rules.specs.Answers.{Answer, gives, refuses, says}
 use Rattle.refusal_rules.proofs.Answers.{gives-same, gives-refuses}
 use Rattle.refusal_rules.proofs.Tables.{fault_pass}
 use Rattle.extent_rules.specs.Stretches.{no_words}
@@ -27,7 +25,7 @@ use Rattle.extent_rules.specs.Steps.{GridAccepted, nth_run, runs_over}
 use Rattle.extent_rules.specs.declared.Extent.{Extent}
 use Rattle.extent_rules.proofs.Runs.{stretches_listed, stretches_few, stretches_more}
 use Rattle.extent_rules.proofs.Fit.{searched-room}
-use Rattle.grid_update_rules.specs.Updates.{add_says, stretches_of, answer_and_table, file_left, changed, stretch_rules, tell_stretches, delete_rules, without_grid, delete_grid, grid_words, address_for, add_rules, with_grid, added, add_grid}
+use Rattle.grid_update_rules.specs.Updates.{stretches_of, answer_and_table, file_left, changed, stretch_rules, tell_stretches, delete_rules, without_grid, delete_grid, grid_words, address_for, add_rules, with_grid, added, add_grid}
 use Rattle.grid_update_rules.proofs.Deleted.{delete_passes, deleted_accepted, deleted_count}
 use Rattle.grid_update_rules.proofs.Addition.{AddAsked, AddPasses, add_passes, added-length, added_accepted, added_count, added_starts}
 use Rattle.grid_update_rules.proofs.Exact.{tell_passes}
@@ -113,7 +111,7 @@ module _ (o : Order) (f : List ℕ) (t : List Extent) (d : StretchStep) (e : str
   tell_may_fill = tells.may_fill
 
   -- once they are filled, answer and table are those of the call
-  pub tell_done : (size_says d.answer, runs_over o f d.count t) ≡ tell_stretches o f t
+  pub tell_done : (says d.answer, runs_over o f d.count t) ≡ tell_stretches o f t
   unfolding tell_stretches
   tell_done = ap (λ (x : Answer ℕ × (List ℕ × List Extent)). (x.0, x.1.1)) (tells.done t)
 
@@ -141,7 +139,7 @@ module _ (o : Order) (f : List ℕ) (number : ℕ) (t : List Extent) (d : Stretc
   delete_may_fill = deletes.may_fill
 
   -- once they are filled, answer, file and table are those of the call
-  pub delete_done : (size_says d.answer, (g, runs_over o g d.count t)) ≡ delete_grid o f number t
+  pub delete_done : (says d.answer, (g, runs_over o g d.count t)) ≡ delete_grid o f number t
   unfolding delete_grid
   delete_done = deletes.done t
 
@@ -257,7 +255,7 @@ module _ (o : Order) (f header : List ℕ) (rows columns : ℕ) (values : List �
   -- once they are filled, in the table that was filled for the search, answer, file and table are those of the call
   pub add_done : (p : AddPlan) (a : AdditionStep) (g : List ℕ) → p ≡ add_plan o f (length header) rows columns (length values) (length t)
       → (addition_says a, g) ≡ add_step o f header rows columns values (length t)
-      → (add_says a.answer, (g, runs_over o g a.count (runs_over o f p.count t))) ≡ add_grid o f header rows columns values t
+      → (says a.answer, (g, runs_over o g a.count (runs_over o f p.count t))) ≡ add_grid o f header rows columns values t
   unfolding add_grid add_plan
   add_done p a g is e =
       let v : Verdict = first_fault (add_rules o f (length header) rows columns (length values) (length t)) in

@@ -4,7 +4,6 @@ pub mod Deleted
 pub mod GridBytes
 pub mod Addition
 pub mod Exact
-pub mod Answers
 pub mod Worked
 pub mod Verdicts
 pub mod Plans

@@ -10,10 +10,7 @@ use borrow.Author.Tests.{lt-ltb}
 use Rattle.endian_rules.specs.Numbers.{encode}
 use Rattle.endian_rules.specs.Words.{word_at}
 use Rattle.endian_rules.specs.declared.Order.{Order}
-use Rattle.refusal_rules.specs.Rules.{first_fault}
-use Rattle.refusal_rules.specs.declared.Refusal.{Refusal}
-use Rattle.refusal_rules.specs.declared.Verdict.{Verdict}
-use Rattle.refusal_rules.specs.declared.Verdict.TheVariants.{Pass, Fault}
+use Rattle.refusal_rules.specs.Rules.{first_fault, Refused, Verdict, Pass, Fault}
 use Rattle.extent_rules.specs.Steps.{survey}
 use Rattle.extent_rules.specs.declared.Survey.{Survey}
 use Rattle.extent_rules.proofs.Fit.{room-some}
@@ -23,7 +20,7 @@ use Rattle.grid_update_rules.specs.Steps.{refused_plan, planned, add_plan}
 
 module _ (o : Order) (f : List ℕ) (headers rows columns values size : ℕ) where
   -- where the rules refuse
-  pub plan_fault : (r : Refusal) → first_fault (add_rules o f headers rows columns values size) ≡ Fault r → refused_plan r ≡ add_plan o f headers rows columns values size
+  pub plan_fault : (r : Refused) → first_fault (add_rules o f headers rows columns values size) ≡ Fault r → refused_plan r ≡ add_plan o f headers rows columns values size
   unfolding add_plan
   plan_fault r e = rw e
 

@@ -3,16 +3,13 @@
 use Rattle.std.specs.Prelude.{◌≡◌, List, ℕ, ◌+◌, ◌-◌, ℤ, length}
 use Rattle.endian_rules.specs.Words.{word_at}
 use Rattle.endian_rules.specs.declared.Order.{Order}
-use Rattle.refusal_rules.specs.Rules.{first_fault}
-use Rattle.refusal_rules.specs.Answers.{Answer, gives, refuses, size_says}
-use Rattle.refusal_rules.specs.declared.Refusal.{Refusal}
-use Rattle.refusal_rules.specs.declared.Verdict.{Verdict}
-use Rattle.refusal_rules.specs.declared.Verdict.TheVariants.{Pass, Fault}
+use Rattle.refusal_rules.specs.Rules.{first_fault, Refused, Verdict, Pass, Fault}
+use Rattle.refusal_rules.specs.Answers.{Answer, gives, refuses, says}
 use Rattle.extent_rules.specs.Stretches.{no_words}
 use Rattle.extent_rules.specs.Rooms.{first_fitting}
 use Rattle.extent_rules.specs.Steps.{nth_run}
 use Rattle.extent_rules.specs.declared.Extent.{Extent}
-use Rattle.grid_update_rules.specs.Updates.{add_says, stretches_of, stretch_rules, delete_rules, without_grid, grid_words, lowest_empty, address_for, add_rules, with_grid, added, file_left}
+use Rattle.grid_update_rules.specs.Updates.{stretches_of, stretch_rules, delete_rules, without_grid, grid_words, lowest_empty, address_for, add_rules, with_grid, added, file_left}
 use Rattle.grid_update_rules.specs.declared.Added.{Added}
 use Rattle.grid_update_rules.specs.declared.StretchStep.{StretchStep}
 use Rattle.grid_update_rules.specs.declared.AddPlan.{AddPlan}
@@ -20,11 +17,11 @@ use Rattle.grid_update_rules.specs.declared.AdditionStep.{AdditionStep}
 
 -- what deleting in the file, or counting its free stretches, says: the answer, and how many places of the table are to be filled
 abbrev pub stretch_says : StretchStep → Answer ℕ × ℕ
-stretch_says d = (size_says d.answer, d.count)
+stretch_says d = (says d.answer, d.count)
 
 -- what an addition in the file says: the answer, and how many places of the table are to be filled
 abbrev pub addition_says : AdditionStep → Answer Added × ℕ
-addition_says a = (add_says a.answer, a.count)
+addition_says a = (says a.answer, a.count)
 
 -- what a step says of the free stretches of a file, by the verdict of its call's rules: the value, made of their number, and as many places; or the refusal, and no place
 abbrev pub counted_stretches : {Value : Type 0} → Verdict → (ℕ → Value) → Order → List ℕ → Answer Value × ℕ
@@ -44,7 +41,7 @@ unfoldable pub delete_step : Order → List ℕ → ℕ → ℕ → (Answer ℕ 
 delete_step o f number size = stepped (first_fault (delete_rules o f number size)) (λ count. count) o f (without_grid o f number)
 
 -- the plan of an addition that is refused
-abbrev pub refused_plan : Refusal → AddPlan
+abbrev pub refused_plan : Refused → AddPlan
 refused_plan r = record { verdict = Fault r; number = 0; need = 0; count = 0; last = no_words }
 
 -- The plan of an addition by the verdict of its rules: the number of the slot, the words that the grid needs, how many free stretches there are before the last,

@@ -12,6 +12,7 @@ ghost use Rattle.extent_rules.specs.Stretches.{first_word, highest_end};
 ghost use Rattle.extent_rules.specs.Steps.{SlotsInside, GridAccepted};
 ghost use Rattle.grid_update_rules.specs.Updates.{next_free_set, delete_rules, lowest_empty, add_rules, grid_bytes};
 ghost use Rattle.grid_update_rules.specs.Steps.{stretch_says, delete_step, refused_plan, add_plan, addition_says, add_step, Ready};
+ghost use Rattle.refusal_rules.specs.Answers.{verdict_of};
 
 use endian_rules::Order;
 use endian_steps::{read_word, write_number, write_signed};
@@ -19,12 +20,9 @@ use extent_rules::Extent;
 use extent_steps::{first_fitting, has_room, highest_end, survey_free};
 use grid::file_verdict;
 use grid_rules::EMPTY_SLOT;
-use grid_update_rules::{AddAnswer, AddPlan, Added, AdditionStep, StretchStep};
+use grid_update_rules::{AddPlan, Added, AdditionStep, StretchStep};
 use refusal::{check, within};
-use refusal_rules::{
-    ABSENT, COUNT_OUT_OF_BOUNDS, NO_EMPTY_SLOT, NO_ROOM, NO_SUCH, Refusal, SHORT_OUTPUT,
-    SizeAnswer, Verdict, WRONG_LENGTH,
-};
+use refusal_rules::Refusal;
 
 // Sets the next free word to the end of the highest grid, or to 12 + n where there is none. The directory must be inside the file, and each grid, and the end must
 // be a signed word.
@@ -40,23 +38,15 @@ fn set_next_free(file: &mut [u8], order: Order)
 
 // What the rules of deleting a grid say.
 #[tactic(auto, unfolding(refusal_rules::specs::Rules::chained))]
-fn delete_verdict(file: &[u8], order: Order, number: u32, size: usize) -> Verdict
-    ensures { result ≡ first_fault (delete_rules order file.now number size) }
+fn delete_verdict(file: &[u8], order: Order, number: u32, size: usize) -> Result<(), Refusal>
+    ensures { verdict_of result ≡ first_fault (delete_rules order file.now number size) }
 {
-    match file_verdict(file, order) {
-        Verdict::Fault(refusal) => Verdict::Fault(refusal),
-        Verdict::Pass => {
-            let n = read_word(order, file, 10);
-            let table = check(Verdict::Pass, n as usize + 1 <= size, SHORT_OUTPUT, 0);
-            match check(table, within(1, n, number), NO_SUCH, 0) {
-                Verdict::Fault(refusal) => Verdict::Fault(refusal),
-                Verdict::Pass => {
-                    let offset = read_word(order, file, 10 + number as usize);
-                    check(Verdict::Pass, !(offset == EMPTY_SLOT), ABSENT, 0)
-                }
-            }
-        }
-    }
+    file_verdict(file, order)?;
+    let n = read_word(order, file, 10);
+    check(n as usize + 1 <= size, Refusal::ShortOutput)?;
+    check(within(1, n, number), Refusal::NoSuch)?;
+    let offset = read_word(order, file, 10 + number as usize);
+    check(!(offset == EMPTY_SLOT), Refusal::Absent)
 }
 
 // Deletes the grid of a number, with a table of `size` pairs. Refused as `grid_updates::delete`.
@@ -65,17 +55,17 @@ pub fn delete_in(file: &mut [u8], order: Order, number: u32, size: usize) -> Str
     ensures { (stretch_says result, file.new) ≡ delete_step order file.old number size }
 {
     match delete_verdict(file, order, number, size) {
-        Verdict::Fault(refusal) => StretchStep {
-            answer: SizeAnswer::Refused(refusal),
+        Err(refusal) => StretchStep {
+            answer: Err(refusal),
             count: 0,
         },
-        Verdict::Pass => {
+        Ok(()) => {
             write_number(order, 4, file, 4 * (10 + number as usize), EMPTY_SLOT);
             set_next_free(file, order);
             let stretches = survey_free(file, order);
             let count = stretches.count;
             StretchStep {
-                answer: SizeAnswer::Value(count),
+                answer: Ok(count),
                 count: count,
             }
         }
@@ -109,21 +99,21 @@ fn add_verdict(
     columns: u32,
     values: usize,
     size: usize,
-) -> Verdict
+) -> Result<(), Refusal>
     requires { GridAccepted order file.now }
-    ensures { result ≡ first_fault (add_rules order file.now headers rows columns values size) }
+    ensures { verdict_of result ≡ first_fault (add_rules order file.now headers rows columns values size) }
 {
     let n = read_word(order, file, 10) as usize;
     let points = rows as usize * columns as usize;
     let slot = lowest_empty(file, order);
     let room = has_room(file, order, 64 + points);
-    let table = check(Verdict::Pass, n + 1 <= size, SHORT_OUTPUT, 0);
-    let row_count = check(table, within(1, 65535, rows), COUNT_OUT_OF_BOUNDS, 0);
-    let column_count = check(row_count, within(1, 65535, columns), COUNT_OUT_OF_BOUNDS, 0);
-    let value_count = check(column_count, values == points, WRONG_LENGTH, 0);
-    let header_size = check(value_count, headers == 256, WRONG_LENGTH, 0);
-    let empty = check(header_size, slot < n, NO_EMPTY_SLOT, 0);
-    check(empty, room, NO_ROOM, 0)
+    check(n + 1 <= size, Refusal::ShortOutput)?;
+    check(within(1, 65535, rows), Refusal::CountOutOfBounds(0))?;
+    check(within(1, 65535, columns), Refusal::CountOutOfBounds(0))?;
+    check(values == points, Refusal::WrongLength)?;
+    check(headers == 256, Refusal::WrongLength)?;
+    check(slot < n, Refusal::NoEmptySlot)?;
+    check(room, Refusal::NoRoom)
 }
 
 // The plan of an addition that was refused.
@@ -131,7 +121,7 @@ fn refused_plan(refusal: Refusal) -> AddPlan
     ensures { result ≡ refused_plan refusal }
 {
     AddPlan {
-        verdict: Verdict::Fault(refusal),
+        verdict: Err(refusal),
         number: 0,
         need: 0,
         count: 0,
@@ -156,16 +146,16 @@ pub fn plan_add(
     ensures { result ≡ add_plan order file.now headers rows columns values size }
 {
     match file_verdict(file, order) {
-        Verdict::Fault(refusal) => refused_plan(refusal),
-        Verdict::Pass => {
+        Err(refusal) => refused_plan(refusal),
+        Ok(()) => {
             match add_verdict(file, order, headers, rows, columns, values, size) {
-                Verdict::Fault(refusal) => refused_plan(refusal),
-                Verdict::Pass => {
+                Err(refusal) => refused_plan(refusal),
+                Ok(()) => {
                     let slot = lowest_empty(file, order);
                     let stretches = survey_free(file, order);
                     let last = stretches.last;
                     AddPlan {
-                        verdict: Verdict::Pass,
+                        verdict: Ok(()),
                         number: slot as u32 + 1,
                         need: 64 + rows as usize * columns as usize,
                         count: stretches.count - 1,
@@ -246,11 +236,11 @@ pub fn add_at(
 {
     let verdict = plan.verdict;
     match verdict {
-        Verdict::Fault(refusal) => AdditionStep {
-            answer: AddAnswer::Refused(refusal),
+        Err(refusal) => AdditionStep {
+            answer: Err(refusal),
             count: 0,
         },
-        Verdict::Pass => {
+        Ok(()) => {
             let last = plan.last;
             let room = first_fitting(plan.need, found, last);
             let at = room.start;
@@ -259,7 +249,7 @@ pub fn add_at(
             set_next_free(file, order);
             let stretches = survey_free(file, order);
             AdditionStep {
-                answer: AddAnswer::Done(Added {
+                answer: Ok(Added {
                     number: plan.number,
                     address: at,
                     stretches: stretches.count,

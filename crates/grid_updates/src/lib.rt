@@ -3,9 +3,9 @@
 #![tactic(auto)]
 
 ghost use Rattle.std.specs.Prelude.{◌≡◌};
-ghost use Rattle.refusal_rules.specs.Answers.{size_says};
+ghost use Rattle.refusal_rules.specs.Answers.{says};
 ghost use Rattle.grid_update_rules.specs.Steps.{stretch_says, tell_step};
-ghost use Rattle.grid_update_rules.specs.Updates.{tell_stretches, delete_grid, add_says, add_grid};
+ghost use Rattle.grid_update_rules.specs.Updates.{tell_stretches, delete_grid, add_grid};
 
 use endian_rules::Order;
 use endian_steps::read_word;
@@ -13,10 +13,10 @@ use extent_rules::Extent;
 use extent_steps::survey_free;
 use extent_table_steps::{fill, search};
 use grid::file_verdict;
-use grid_update_rules::{AddAnswer, StretchStep};
+use grid_update_rules::{Added, StretchStep};
 use grid_update_steps::{add_at, delete_in, plan_add};
 use refusal::check;
-use refusal_rules::{SHORT_OUTPUT, SizeAnswer, Verdict};
+use refusal_rules::Refusal;
 
 // Counts the free stretches of a file, for a table of `size` pairs. Refused as `free_stretches`.
 #[tactic(auto, unfolding(grid_update_rules::specs::Steps::tell_step))]
@@ -24,22 +24,22 @@ fn count_stretches(file: &[u8], order: Order, size: usize) -> StretchStep
     ensures { stretch_says result ≡ tell_step order file.now size }
 {
     match file_verdict(file, order) {
-        Verdict::Fault(refusal) => StretchStep {
-            answer: SizeAnswer::Refused(refusal),
+        Err(refusal) => StretchStep {
+            answer: Err(refusal),
             count: 0,
         },
-        Verdict::Pass => {
+        Ok(()) => {
             let n = read_word(order, file, 10) as usize;
-            match check(Verdict::Pass, n + 1 <= size, SHORT_OUTPUT, 0) {
-                Verdict::Fault(refusal) => StretchStep {
-                    answer: SizeAnswer::Refused(refusal),
+            match check(n + 1 <= size, Refusal::ShortOutput) {
+                Err(refusal) => StretchStep {
+                    answer: Err(refusal),
                     count: 0,
                 },
-                Verdict::Pass => {
+                Ok(()) => {
                     let stretches = survey_free(file, order);
                     let count = stretches.count;
                     StretchStep {
-                        answer: SizeAnswer::Value(count),
+                        answer: Ok(count),
                         count: count,
                     }
                 }
@@ -51,8 +51,8 @@ fn count_stretches(file: &[u8], order: Order, size: usize) -> StretchStep
 // Answers how many free stretches the file has, which then stand in the first places of the table, in address order; places past them stay.
 //
 // Refused by the first fault of the whole file, 1 to 5; then with 10 where the table has fewer than n + 1 places. A refusal leaves the table as it was.
-pub fn free_stretches(file: &[u8], order: Order, table: &mut [Extent]) -> SizeAnswer
-    ensures { (size_says result, table.new) ≡ tell_stretches order file.now table.old }
+pub fn free_stretches(file: &[u8], order: Order, table: &mut [Extent]) -> Result<usize, Refusal>
+    ensures { (says result, table.new) ≡ tell_stretches order file.now table.old }
 {
     let step = count_stretches(file, order, table.len());
     fill(table, file, order, step.count);
@@ -64,8 +64,8 @@ pub fn free_stretches(file: &[u8], order: Order, table: &mut [Extent]) -> SizeAn
 //
 // Refused by the first fault of the whole file, 1 to 5; then with 10 where the table has fewer than n + 1 places, 7 where there is no such grid, 6 where its slot
 // is empty. A refusal leaves the file and the table as they were.
-pub fn delete(file: &mut [u8], order: Order, number: u32, table: &mut [Extent]) -> SizeAnswer
-    ensures { (size_says result, (file.new, table.new)) ≡ delete_grid order file.old number table.old }
+pub fn delete(file: &mut [u8], order: Order, number: u32, table: &mut [Extent]) -> Result<usize, Refusal>
+    ensures { (says result, (file.new, table.new)) ≡ delete_grid order file.old number table.old }
 {
     let change = delete_in(file, order, number, table.len());
     fill(table, file, order, change.count);
@@ -88,8 +88,8 @@ pub fn add(
     columns: u32,
     values: &[i32],
     table: &mut [Extent],
-) -> AddAnswer
-    ensures { (add_says result, (file.new, table.new)) ≡ add_grid order file.old header.now rows columns values.now table.old }
+) -> Result<Added, Refusal>
+    ensures { (says result, (file.new, table.new)) ≡ add_grid order file.old header.now rows columns values.now table.old }
 {
     let plan = plan_add(
         file,

@@ -2,49 +2,44 @@
 #![tactic(auto)]
 
 ghost use Rattle.std.specs.Prelude.{◌≡◌};
-ghost use Rattle.refusal_rules.specs.Answers.{mapped};
-ghost use Rattle.area_rules.specs.Opening.{open_area, area_says};
-ghost use Rattle.grid_rules.specs.Opening.{open_grid, grid_says};
-ghost use Rattle.md_rules.specs.Opening.{open_md, md_says};
-ghost use Rattle.layout_rules.specs.Layouts.{opening_says, layout_order, gives_that, is_fresh};
+ghost use Rattle.refusal_rules.specs.Answers.{mapped, says};
+ghost use Rattle.area_rules.specs.Opening.{open_area};
+ghost use Rattle.grid_rules.specs.Opening.{open_grid};
+ghost use Rattle.md_rules.specs.Opening.{open_md};
+ghost use Rattle.layout_rules.specs.Layouts.{layout_order, gives_that, is_fresh};
 
 use area::same_area;
-use area_rules::{AreaLayout, AreaOpening};
+use area_rules::AreaLayout;
 use endian_rules::Order;
 use grid::same_grid;
-use grid_rules::{GridLayout, GridOpening};
-use layout_rules::{Layout, Opening};
+use grid_rules::GridLayout;
+use layout_rules::Layout;
 use md::same_md;
-use md_rules::{MdLayout, MdOpening};
+use md_rules::MdLayout;
+use refusal_rules::Refusal;
 
 // Opens an AREA file, which finds its byte order by itself. Refused as `area::open`.
-pub fn open_area(file: &[u8]) -> Opening
-    ensures { opening_says result ≡ mapped Layout.Area (open_area file.now) }
+pub fn open_area(file: &[u8]) -> Result<Layout, Refusal>
+    ensures { says result ≡ mapped Layout.Area (open_area file.now) }
 {
-    match area::open(file) {
-        AreaOpening::Opened(layout) => Opening::Opened(Layout::Area(layout)),
-        AreaOpening::Refused(refusal) => Opening::Refused(refusal),
-    }
+    let layout = area::open(file)?;
+    Ok(Layout::Area(layout))
 }
 
 // Opens the grid of a number in a GRID file. Refused as `grid::open`.
-pub fn open_grid(file: &[u8], order: Order, number: u32) -> Opening
-    ensures { opening_says result ≡ mapped Layout.Grid (open_grid order file.now number) }
+pub fn open_grid(file: &[u8], order: Order, number: u32) -> Result<Layout, Refusal>
+    ensures { says result ≡ mapped Layout.Grid (open_grid order file.now number) }
 {
-    match grid::open(file, order, number) {
-        GridOpening::Opened(layout) => Opening::Opened(Layout::Grid(layout)),
-        GridOpening::Refused(refusal) => Opening::Refused(refusal),
-    }
+    let layout = grid::open(file, order, number)?;
+    Ok(Layout::Grid(layout))
 }
 
 // Opens an MD file. Refused as `md::open`.
-pub fn open_md(file: &[u8], order: Order) -> Opening
-    ensures { opening_says result ≡ mapped Layout.Md (open_md order file.now) }
+pub fn open_md(file: &[u8], order: Order) -> Result<Layout, Refusal>
+    ensures { says result ≡ mapped Layout.Md (open_md order file.now) }
 {
-    match md::open(file, order) {
-        MdOpening::Opened(layout) => Opening::Opened(Layout::Md(layout)),
-        MdOpening::Refused(refusal) => Opening::Refused(refusal),
-    }
+    let layout = md::open(file, order)?;
+    Ok(Layout::Md(layout))
 }
 
 // The byte order of a layout.
@@ -59,32 +54,32 @@ pub fn order_of(layout: Layout) -> Order
 }
 
 // Whether what opening an AREA file answered is a layout, and this one.
-fn is_area(opening: AreaOpening, layout: AreaLayout) -> bool
-    ensures { result ≡ gives_that (Layout.Area layout) (mapped Layout.Area (area_says opening)) }
+fn is_area(opening: Result<AreaLayout, Refusal>, layout: AreaLayout) -> bool
+    ensures { result ≡ gives_that (Layout.Area layout) (mapped Layout.Area (says opening)) }
 {
     match opening {
-        AreaOpening::Opened(found) => same_area(found, layout),
-        AreaOpening::Refused(_) => false,
+        Ok(found) => same_area(found, layout),
+        Err(_) => false,
     }
 }
 
 // Whether what opening a GRID file answered is a layout, and this one.
-fn is_grid(opening: GridOpening, layout: GridLayout) -> bool
-    ensures { result ≡ gives_that (Layout.Grid layout) (mapped Layout.Grid (grid_says opening)) }
+fn is_grid(opening: Result<GridLayout, Refusal>, layout: GridLayout) -> bool
+    ensures { result ≡ gives_that (Layout.Grid layout) (mapped Layout.Grid (says opening)) }
 {
     match opening {
-        GridOpening::Opened(found) => same_grid(found, layout),
-        GridOpening::Refused(_) => false,
+        Ok(found) => same_grid(found, layout),
+        Err(_) => false,
     }
 }
 
 // Whether what opening an MD file answered is a layout, and this one.
-fn is_md(opening: MdOpening, layout: MdLayout) -> bool
-    ensures { result ≡ gives_that (Layout.Md layout) (mapped Layout.Md (md_says opening)) }
+fn is_md(opening: Result<MdLayout, Refusal>, layout: MdLayout) -> bool
+    ensures { result ≡ gives_that (Layout.Md layout) (mapped Layout.Md (says opening)) }
 {
     match opening {
-        MdOpening::Opened(found) => same_md(found, layout),
-        MdOpening::Refused(_) => false,
+        Ok(found) => same_md(found, layout),
+        Err(_) => false,
     }
 }
 

@@ -5,20 +5,13 @@
 use area_rules::AreaLayout;
 use grid_rules::GridLayout;
 use md_rules::MdLayout;
-use refusal_rules::Refusal;
 
 // What opening a file finds, of any of the three kinds. "Layout" is document 01's term. A caller can make one up: nothing is known of its fields
 // until it is found to be the one that opening the file gives.
-#[derive(Clone, Copy)]
+#[derive(Clone, Copy, Debug, PartialEq, Eq)]
 pub enum Layout {
     Area(AreaLayout),
     Grid(GridLayout),
     Md(MdLayout),
 }
 
-// What opening a file answers: its layout, or a refusal.
-#[derive(Clone, Copy)]
-pub enum Opening {
-    Opened(Layout),
-    Refused(Refusal),
-}

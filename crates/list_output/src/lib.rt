@@ -5,7 +5,6 @@ ghost use Rattle.std.specs.Prelude.{◌≡◌, IfOk, length};
 ghost use Rattle.listing_rules.specs.Page.{listing_text};
 
 use listing_text::list_text;
-use refusal_rules::SizeAnswer;
 use std::io;
 use std::io::Write;
 
@@ -16,11 +15,11 @@ pub fn print_listing(rt: &impl Print, file: &[u8]) -> io::Result<usize>
 {
     let mut text = [0u8; 512];
     match list_text(file, &mut text) {
-        SizeAnswer::Value(count) => {
+        Ok(count) => {
             let listing = &text[..count];
             io::writer(rt).write_all(listing)?;
             Ok(listing.len())
         }
-        SizeAnswer::Refused(_) => Ok(0),
+        Err(_) => Ok(0),
     }
 }

@@ -3,54 +3,55 @@
 
 ghost use Rattle.std.specs.Prelude.{◌≡◌, ◌+◌, ◌*◌, ◌≤◌, length};
 ghost use Rattle.endian_rules.specs.Words.{word_at};
-ghost use Rattle.refusal_rules.specs.Rules.{judge, first, first_fault};
+ghost use Rattle.refusal_rules.specs.Rules.{judge, first, first_fault, Pass};
 ghost use Rattle.md_rules.specs.Rules.{md_count, md_equal, md_count_rules, md_sum_rules, md_fixed_rules, md_end_rules, md_rules};
-ghost use Rattle.md_rules.specs.Opening.{md_layout_of, md_says, open_md, same_md};
+ghost use Rattle.md_rules.specs.Opening.{md_layout_of, open_md, same_md};
+ghost use Rattle.refusal_rules.specs.Answers.{says, verdict_of};
 
 use endian::{at_least, order_number};
 use endian_rules::Order;
 use endian_steps::read_word;
-use md_rules::{MdLayout, MdOpening};
+use md_rules::MdLayout;
 use refusal::{and, check, equal_and, within};
-use refusal_rules::{COUNT_OUT_OF_BOUNDS, MISPLACED, RULE_BROKEN, Refusal, SHORT_FILE, Verdict};
+use refusal_rules::Refusal;
 
 // One rule more, after a verdict: that word k is a count from `low` to `high`.
-fn count(verdict: Verdict, file: &[u8], order: Order, k: usize, low: u32, high: u32) -> Verdict
+fn count(file: &[u8], order: Order, k: usize, low: u32, high: u32) -> Result<(), Refusal>
     requires { 4 * k + 4 ≤ length file.now }
-    ensures { result ≡ first verdict (judge (md_count (word_at order file.now) k low high)) }
+    ensures { verdict_of result ≡ (judge (md_count (word_at order file.now) k low high)) }
 {
     let holds = within(low, high, read_word(order, file, k));
-    check(verdict, holds, COUNT_OUT_OF_BOUNDS, k)
+    check(holds, Refusal::CountOutOfBounds(k))
 }
 
 // One rule more, after a verdict: that word k is n.
-fn equal(verdict: Verdict, file: &[u8], order: Order, k: usize, n: usize) -> Verdict
+fn equal(file: &[u8], order: Order, k: usize, n: usize) -> Result<(), Refusal>
     requires { 4 * k + 4 ≤ length file.now }
-    ensures { result ≡ first verdict (judge (md_equal (word_at order file.now) k n)) }
+    ensures { verdict_of result ≡ (judge (md_equal (word_at order file.now) k n)) }
 {
     let holds = read_word(order, file, k) as usize == n;
-    check(verdict, holds, RULE_BROKEN, k)
+    check(holds, Refusal::RuleBroken(k))
 }
 
 // What the rules of the counts say. The verdict up to the rule of a word is named after it.
 #[tactic(auto, unfolding(md_rules::specs::Rules::md_count_rules, refusal_rules::specs::Rules::chained))]
-fn count_verdict(file: &[u8], order: Order) -> Verdict
+fn count_verdict(file: &[u8], order: Order) -> Result<(), Refusal>
     requires { 16384 ≤ length file.now }
-    ensures { result ≡ first_fault (md_count_rules (word_at order file.now)) }
+    ensures { verdict_of result ≡ first_fault (md_count_rules (word_at order file.now)) }
 {
-    let to_3 = count(Verdict::Pass, file, order, 3, 1, 65535);
-    let to_4 = count(to_3, file, order, 4, 1, 1600000);
-    let to_5 = count(to_4, file, order, 5, 1, 400);
-    let to_6 = count(to_5, file, order, 6, 0, 400);
-    let to_7 = count(to_6, file, order, 7, 0, 400);
-    count(to_7, file, order, 8, 1, 400)
+    count(file, order, 3, 1, 65535)?;
+    count(file, order, 4, 1, 1600000)?;
+    count(file, order, 5, 1, 400)?;
+    count(file, order, 6, 0, 400)?;
+    count(file, order, 7, 0, 400)?;
+    count(file, order, 8, 1, 400)
 }
 
 // What the rules of the words that follow from the counts say, where the counts are within their bounds.
 #[tactic(auto, unfolding(md_rules::specs::Rules::md_sum_rules, refusal_rules::specs::Rules::chained))]
-fn sum_verdict(file: &[u8], order: Order) -> Verdict
-    requires { (16384 ≤ length file.now) × (first_fault (md_count_rules (word_at order file.now)) ≡ Verdict.Pass) }
-    ensures { result ≡ first_fault (md_sum_rules (word_at order file.now)) }
+fn sum_verdict(file: &[u8], order: Order) -> Result<(), Refusal>
+    requires { (16384 ≤ length file.now) × (first_fault (md_count_rules (word_at order file.now)) ≡ Pass) }
+    ensures { verdict_of result ≡ first_fault (md_sum_rules (word_at order file.now)) }
 {
     let rows = read_word(order, file, 3) as usize;
     let columns = read_word(order, file, 4) as usize;
@@ -59,31 +60,31 @@ fn sum_verdict(file: &[u8], order: Order) -> Verdict
     let data_keys = read_word(order, file, 8) as usize;
     let column_start = read_word(order, file, 28) as usize;
     let keys = row_keys + column_keys + data_keys;
-    let to_5 = equal(Verdict::Pass, file, order, 5, keys);
-    let to_9 = equal(to_5, file, order, 9, row_keys + 1);
-    let to_10 = equal(to_9, file, order, 10, row_keys + column_keys + 1);
-    let to_27 = equal(to_10, file, order, 27, 4096);
-    let to_28 = equal(to_27, file, order, 28, 4096 + rows * row_keys);
-    equal(to_28, file, order, 29, column_start + columns * column_keys)
+    equal(file, order, 5, keys)?;
+    equal(file, order, 9, row_keys + 1)?;
+    equal(file, order, 10, row_keys + column_keys + 1)?;
+    equal(file, order, 27, 4096)?;
+    equal(file, order, 28, 4096 + rows * row_keys)?;
+    equal(file, order, 29, column_start + columns * column_keys)
 }
 
 // What the rules of the words that are the same in every file say, after a verdict.
 #[tactic(auto, unfolding(md_rules::specs::Rules::md_fixed_rules, refusal_rules::specs::Rules::chained))]
-fn fixed_verdict(verdict: Verdict, file: &[u8], order: Order) -> Verdict
+fn fixed_verdict(file: &[u8], order: Order) -> Result<(), Refusal>
     requires { 16384 ≤ length file.now }
-    ensures { result ≡ first verdict (first_fault (md_fixed_rules (word_at order file.now))) }
+    ensures { verdict_of result ≡ (first_fault (md_fixed_rules (word_at order file.now))) }
 {
-    let to_31 = equal(verdict, file, order, 31, 64);
-    let to_32 = equal(to_31, file, order, 32, 464);
-    let to_33 = equal(to_32, file, order, 33, 864);
-    equal(to_33, file, order, 34, 1264)
+    equal(file, order, 31, 64)?;
+    equal(file, order, 32, 464)?;
+    equal(file, order, 33, 864)?;
+    equal(file, order, 34, 1264)
 }
 
 // What the rules of word 30 say, after a verdict, where the counts are within their bounds.
 #[tactic(auto, unfolding(md_rules::specs::Rules::md_end_rules, refusal_rules::specs::Rules::chained))]
-fn end_verdict(verdict: Verdict, file: &[u8], order: Order) -> Verdict
-    requires { (16384 ≤ length file.now) × (first_fault (md_count_rules (word_at order file.now)) ≡ Verdict.Pass) }
-    ensures { result ≡ first verdict (first_fault (md_end_rules (length file.now) (word_at order file.now))) }
+fn end_verdict(file: &[u8], order: Order) -> Result<(), Refusal>
+    requires { (16384 ≤ length file.now) × (first_fault (md_count_rules (word_at order file.now)) ≡ Pass) }
+    ensures { verdict_of result ≡ (first_fault (md_end_rules (length file.now) (word_at order file.now))) }
 {
     let rows = read_word(order, file, 3) as usize;
     let columns = read_word(order, file, 4) as usize;
@@ -93,23 +94,19 @@ fn end_verdict(verdict: Verdict, file: &[u8], order: Order) -> Verdict
     let data_end = data_start + rows * columns * data_keys;
     let past = at_least(data_end, end);
     let inside = end as usize <= file.len() / 4;
-    check(check(verdict, past, RULE_BROKEN, 30), inside, MISPLACED, 30)
+    check(check(past, Refusal::RuleBroken(30)), inside, MISPLACED, 30)
 }
 
 // What all rules of opening say of a file that has at least 16,384 bytes.
 #[tactic(auto, unfolding(refusal_rules::specs::Rules::first))]
-fn md_verdict(file: &[u8], order: Order) -> Verdict
+fn md_verdict(file: &[u8], order: Order) -> Result<(), Refusal>
     requires { 16384 ≤ length file.now }
-    ensures { result ≡ first_fault (md_rules (length file.now) (word_at order file.now)) }
+    ensures { verdict_of result ≡ first_fault (md_rules (length file.now) (word_at order file.now)) }
 {
-    match count_verdict(file, order) {
-        Verdict::Fault(refusal) => Verdict::Fault(refusal),
-        Verdict::Pass => {
-            let sums = sum_verdict(file, order);
-            let fixed = fixed_verdict(sums, file, order);
-            end_verdict(fixed, file, order)
-        }
-    }
+    count_verdict(file, order)?;
+    let sums = sum_verdict(file, order);
+    fixed_verdict(file, order)?;
+    end_verdict(file, order)
 }
 
 // The layout that the words of a file give.
@@ -135,19 +132,14 @@ fn layout_of_words(file: &[u8], order: Order) -> MdLayout
 // Opens an MD file in a byte order. Refused, with document 01's number and place, by the first of its rules that fails: 1 where the file is shorter
 // than 16,384 bytes, 3 at a count outside its bounds, 4 at a word unequal to its rule, 5 at 30 where word 30 only passes the file's end.
 #[tactic(auto, unfolding(md_rules::specs::Opening::open_md, md_rules::specs::Opening::open_md_words, md_rules::specs::Rules::md_rules, refusal_rules::specs::Rules::first_fault, refusal_rules::specs::Rules::first, refusal_rules::specs::Rules::judge))]
-pub fn open(file: &[u8], order: Order) -> MdOpening
-    ensures { md_says result ≡ open_md order file.now }
+pub fn open(file: &[u8], order: Order) -> Result<MdLayout, Refusal>
+    ensures { says result ≡ open_md order file.now }
 {
     if file.len() < 16384 {
-        return MdOpening::Refused(Refusal {
-            number: SHORT_FILE,
-            place: 0,
-        });
+        return Err(Refusal::ShortFile);
     }
-    match md_verdict(file, order) {
-        Verdict::Fault(refusal) => MdOpening::Refused(refusal),
-        Verdict::Pass => MdOpening::Opened(layout_of_words(file, order)),
-    }
+    md_verdict(file, order)?;
+    Ok(layout_of_words(file, order))
 }
 
 // Whether two MD layouts are the same in every field. What has been compared up to a field is named after it.

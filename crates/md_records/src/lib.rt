@@ -4,7 +4,7 @@
 ghost use Rattle.std.specs.Prelude.{◌≡◌, ◌≤◌, length};
 ghost use Rattle.lists.specs.Lists.{over};
 ghost use Rattle.refusal_rules.specs.Rules.{first_fault};
-ghost use Rattle.refusal_rules.specs.Answers.{size_says};
+ghost use Rattle.refusal_rules.specs.Answers.{says, verdict_of};
 ghost use Rattle.copy_rules.specs.Runs.{copied};
 ghost use Rattle.md_rules.specs.Accepts.{MdOf};
 ghost use Rattle.md_rules.specs.Fields.{fields_of};
@@ -13,18 +13,18 @@ ghost use Rattle.md_part_rules.specs.Records.{record_rules, part_fields, record_
 use fresh_layout::md_of;
 use layout_rules::Layout;
 use md_places::part_start;
-use md_rules::{MdLayout, MdOpening};
+use md_rules::MdLayout;
 use refusal::{check, within};
-use refusal_rules::{NO_SUCH, Refusal, SHORT_OUTPUT, SizeAnswer, Verdict};
+use refusal_rules::Refusal;
 use word_copy_steps::fill_words;
 
 // What the rules of a record of a row and a column say: 7 where there is no such record.
 #[tactic(auto, unfolding(md_part_rules::specs::Records::record_rules, refusal_rules::specs::Rules::chained))]
-fn record_verdict(l: MdLayout, row: u32, column: u32) -> Verdict
-    ensures { result ≡ first_fault (record_rules l row column) }
+fn record_verdict(l: MdLayout, row: u32, column: u32) -> Result<(), Refusal>
+    ensures { verdict_of result ≡ first_fault (record_rules l row column) }
 {
-    let rows = check(Verdict::Pass, within(1, l.rows, row), NO_SUCH, 0);
-    check(rows, within(1, l.columns, column), NO_SUCH, 0)
+    check(within(1, l.rows, row), Refusal::NoSuch)?;
+    check(within(1, l.columns, column), Refusal::NoSuch)
 }
 
 // Fills an output with the fields of the part of an accepted file that coordinates name; it has a place for each of them. The part may have none. An accepted
@@ -35,8 +35,8 @@ fn fill_part(file: &[u8], l: MdLayout, row: u32, column: u32, out: &mut [i32])
 {
     let order = l.order;
     match part_start(l, row, column) {
-        SizeAnswer::Value(word) => fill_words(order, file, 4 * word, 4, out),
-        SizeAnswer::Refused(_) => {}
+        Ok(word) => fill_words(order, file, 4 * word, 4, out),
+        Err(_) => {}
     }
 }
 
@@ -55,24 +55,17 @@ fn fill_record(file: &[u8], l: MdLayout, row: u32, column: u32, out: &mut [i32])
 
 // Copies a record of an accepted file. Refused with 7 where there is no such record, then with 10 where the output is too short.
 #[tactic(auto, unfolding(md_part_rules::specs::Records::record_in))]
-fn copy_of(file: &[u8], l: MdLayout, row: u32, column: u32, out: &mut [i32]) -> SizeAnswer
+fn copy_of(file: &[u8], l: MdLayout, row: u32, column: u32, out: &mut [i32]) -> Result<usize, Refusal>
     requires { MdOf l.order file.now l }
-    ensures { (size_says result, out.new) ≡ copied (record_in file.now l row column) out.old }
+    ensures { (says result, out.new) ≡ copied (record_in file.now l row column) out.old }
 {
     let keys = l.keys as usize;
-    match record_verdict(l, row, column) {
-        Verdict::Fault(refusal) => SizeAnswer::Refused(refusal),
-        Verdict::Pass => {
-            if out.len() < keys {
-                return SizeAnswer::Refused(Refusal {
-                    number: SHORT_OUTPUT,
-                    place: 0,
-                });
-            }
-            fill_record(file, l, row, column, out);
-            SizeAnswer::Value(keys)
-        }
+    record_verdict(l, row, column)?;
+    if out.len() < keys {
+        return Err(Refusal::ShortOutput);
     }
+    fill_record(file, l, row, column, out);
+    Ok(keys)
 }
 
 // Copies a complete record, that of a row and a column, both counted from 1, of an MD file into the first places of a lent output of signed words: its row
@@ -84,11 +77,9 @@ pub fn copy_record(
     row: u32,
     column: u32,
     out: &mut [i32],
-) -> SizeAnswer
-    ensures { (size_says result, out.new) ≡ copy_record file.now layout row column out.old }
+) -> Result<usize, Refusal>
+    ensures { (says result, out.new) ≡ copy_record file.now layout row column out.old }
 {
-    match md_of(file, layout) {
-        MdOpening::Refused(refusal) => SizeAnswer::Refused(refusal),
-        MdOpening::Opened(l) => copy_of(file, l, row, column, out),
-    }
+    let l = md_of(file, layout)?;
+    copy_of(file, l, row, column, out)
 }

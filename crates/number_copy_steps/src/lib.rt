@@ -5,13 +5,13 @@
 
 ghost use Rattle.std.specs.Prelude.{◌≡◌, ℕ, ◌+◌, ◌*◌, ◌≤◌, ◌<◌, length};
 ghost use Rattle.endian_rules.specs.declared.Order.TheVariants.{Big};
-ghost use Rattle.refusal_rules.specs.Answers.{gives, size_says};
+ghost use Rattle.refusal_rules.specs.Answers.{gives, says};
 ghost use Rattle.copy_rules.specs.Runs.{numbers_at, copied};
 
 use copy_rules::Strided;
 use endian_rules::Order;
 use endian_steps::read_number;
-use refusal_rules::{Refusal, SHORT_OUTPUT, SizeAnswer};
+use refusal_rules::Refusal;
 
 // Fills an output with unsigned numbers, one a turn.
 fn numbers_singly(order: Order, width: usize, file: &[u8], at: usize, step: usize, out: &mut [u32])
@@ -86,17 +86,14 @@ pub fn copy_numbers(
     file: &[u8],
     run: Strided,
     out: &mut [u32],
-) -> SizeAnswer
+) -> Result<usize, Refusal>
     requires { (width ≤ 4) × ((i : ℕ) → i < run.count → run.at + i * run.step + width ≤ length file.now) }
-    ensures { (size_says result, out.new) ≡ copied (gives (numbers_at order width file.now run.at run.step run.count)) out.old }
+    ensures { (says result, out.new) ≡ copied (gives (numbers_at order width file.now run.at run.step run.count)) out.old }
 {
     let count = run.count;
     if out.len() < count {
-        return SizeAnswer::Refused(Refusal {
-            number: SHORT_OUTPUT,
-            place: 0,
-        });
+        return Err(Refusal::ShortOutput);
     }
     fill_numbers(order, width, file, run.at, run.step, &mut out[..count]);
-    SizeAnswer::Value(count)
+    Ok(count)
 }

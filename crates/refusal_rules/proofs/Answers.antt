@@ -5,8 +5,13 @@ use mathlib.Core.Logic.{◌↔◌}
 use mathlib.Core.List.{List, ◌∷◌}
 use Prim.Native.Nat.{ℕ, ◌<◌}
 use native.Mathlib.Omega.{arith}
-use Rattle.refusal_rules.specs.Rules.{Refused, Verdict, Pass, Fault, Rule, first_fault, Every, Hold, Give, FirstFailing}
-use Rattle.refusal_rules.specs.Answers.{Answer, gives, refuses, answered, mapped, and_then}
+use lib.Dec.{eqb}
+use Rattle.std.specs.Prelude.{Result, Ok, Err}
+use Rattle.lists.specs.Choices.{pick}
+use Rattle.refusal_rules.specs.declared.Refusal.{Refusal}
+use Rattle.refusal_rules.specs.declared.Refusal.TheVariants.{ShortFile, NoByteOrder, CountOutOfBounds, RuleBroken, Misplaced, Absent, NoSuch, TooLarge, Stale, ShortOutput, NoDate, WrongLength, NoEmptySlot, NoRoom}
+use Rattle.refusal_rules.specs.Rules.{Refused, numbered, Verdict, Pass, Fault, Rule, first_fault, Every, Hold, Give, FirstFailing}
+use Rattle.refusal_rules.specs.Answers.{Answer, gives, refuses, says, answered, mapped, and_then}
 use Rattle.refusal_rules.proofs.Tables.{pass_hold, hold_pass, fault_first, first_fault_lem, every_right, same_fault}
 
 -- ---- answers that are equal
@@ -27,10 +32,51 @@ module _ {Value : Type 0} where
       let place : r.place ≡ s.place = cc in
       λ i. record { number = number i; place = place i }
 
-  -- An enum of which each case says what no other says: what an answer says settles the answer.
-  pub settled : {Enum : Type 0} (says : Enum → Answer Value) (back : Answer Value → Enum) → ((x : Enum) → back (says x) ≡ x)
-      → (x y : Enum) → says x ≡ says y → x ≡ y
-  settled says back e x y p = sym (e x) ∙ ap back p ∙ e y
+-- the refusal of each number and place
+refusal_at : ℕ → ℕ → Refusal
+refusal_at n p =
+    pick (eqb n 1) ShortFile
+    (pick (eqb n 2) NoByteOrder
+    (pick (eqb n 3) (CountOutOfBounds p)
+    (pick (eqb n 4) (RuleBroken p)
+    (pick (eqb n 5) (Misplaced p)
+    (pick (eqb n 6) Absent
+    (pick (eqb n 7) NoSuch
+    (pick (eqb n 8) TooLarge
+    (pick (eqb n 9) Stale
+    (pick (eqb n 10) ShortOutput
+    (pick (eqb n 11) NoDate
+    (pick (eqb n 12) WrongLength
+    (pick (eqb n 13) NoEmptySlot NoRoom))))))))))))
+
+-- is the one that has them
+numbered_back : (r : Refusal) → refusal_at (numbered r).number (numbered r).place ≡ r
+unfolding refusal_at
+numbered_back ShortFile = refl
+numbered_back NoByteOrder = refl
+numbered_back (CountOutOfBounds w) = refl
+numbered_back (RuleBroken w) = refl
+numbered_back (Misplaced w) = refl
+numbered_back Absent = refl
+numbered_back NoSuch = refl
+numbered_back TooLarge = refl
+numbered_back Stale = refl
+numbered_back ShortOutput = refl
+numbered_back NoDate = refl
+numbered_back WrongLength = refl
+numbered_back NoEmptySlot = refl
+numbered_back NoRoom = refl
+
+-- so refusals with one number and one place are the same
+pub numbered_settles : (r s : Refusal) → numbered r ≡ numbered s → r ≡ s
+numbered_settles r s e = sym (numbered_back r) ∙ ap (λ (x : Refused). refusal_at x.number x.place) e ∙ numbered_back s
+
+-- what a result says settles the result
+pub says_settles : {Value : Type 0} (x y : Result Value Refusal) → says x ≡ says y → x ≡ y
+says_settles (Ok v) (Ok w) e = ap Ok (gives-same e)
+says_settles (Ok v) (Err s) e = gives-refuses e
+says_settles (Err r) (Ok w) e = gives-refuses (sym e)
+says_settles (Err r) (Err s) e = ap Err (numbered_settles r s (refuses-same e))
 
 -- an answer with other values made of its values, no two of which become one, gives what the answer gives
 pub mapped-gives : {Value Other : Type 0} (h : Value → Other) → ((v w : Value) → h v ≡ h w → v ≡ w)

@@ -1,7 +1,7 @@
 -- What a call answers, as document 01 has it, "What comes back": a value, or a refusal, which "carries number and place, no value".
 --
--- In code an answer is an enum. For each such enum a definition gives what each of its cases says, in these terms, and the
--- contract is that what the call's answer says equals what the call's definition gives.
+-- In code an answer is a `Result`, and a call's contract is that what its result says, in these terms, equals what the call's
+-- definition gives.
 -- Assumes nothing.
 use Rattle.std.specs.Prelude.{ℕ, ◌*◌, Result, Ok, Err}
 use Rattle.refusal_rules.specs.Rules.{Refused, Verdict, Pass, Fault, numbered}

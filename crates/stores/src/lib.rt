@@ -5,7 +5,8 @@
 ghost use Rattle.std.specs.Prelude.{◌≡◌, ◌^◌, ◌≤◌, ◌+◌, ltb, length};
 ghost use Rattle.store_theory.specs.Plans.{outcome};
 ghost use Rattle.store_rules.specs.Stores.{put_at, store_sample, store_point, store_field};
-ghost use Rattle.store_rules.specs.Answers.{store_says, store_at};
+ghost use Rattle.store_rules.specs.Answers.{store_at};
+ghost use Rattle.refusal_rules.specs.Answers.{says};
 
 use area_rules::SlotOrBand;
 use endian::unsigned;
@@ -14,8 +15,7 @@ use endian_steps::write_number;
 use layout::order_of;
 use layout_rules::Layout;
 use reads::place_in;
-use refusal_rules::{Place, PlaceAnswer, Refusal, TOO_LARGE};
-use store_rules::StoreAnswer;
+use refusal_rules::{Place, Refusal};
 use value_rules::ValueName;
 
 // Whether a number fits so many bytes, one to four.
@@ -33,31 +33,26 @@ fn fits_width(number: u32, width: usize) -> bool
 
 // Puts a number at a place. Refused with 8 where it does not fit the place's bytes.
 #[tactic(auto, unfolding(store_theory::specs::Plans::outcome, store_rules::specs::Stores::put_at))]
-fn put(file: &mut [u8], order: Order, place: Place, number: u32) -> StoreAnswer
+fn put(file: &mut [u8], order: Order, place: Place, number: u32) -> Result<(), Refusal>
     requires { ((1 ≤ place.width) × (place.width ≤ 4)) × (place.address + place.width ≤ length file.old) }
-    ensures { (store_says result, file.new) ≡ outcome file.old (put_at order number place) }
+    ensures { (says result, file.new) ≡ outcome file.old (put_at order number place) }
 {
     if fits_width(number, place.width) {
         write_number(order, place.width, file, place.address, number);
-        StoreAnswer::Done
+        Ok(())
     } else {
-        StoreAnswer::Refused(Refusal {
-            number: TOO_LARGE,
-            place: 0,
-        })
+        Err(Refusal::TooLarge)
     }
 }
 
 // Stores the number that a value's bits are.
 #[tactic(auto, unfolding(store_theory::specs::Plans::outcome))]
-fn store(file: &mut [u8], layout: Layout, name: ValueName, number: u32) -> StoreAnswer
-    ensures { (store_says result, file.new) ≡ store_at file.old layout name number }
+fn store(file: &mut [u8], layout: Layout, name: ValueName, number: u32) -> Result<(), Refusal>
+    ensures { (says result, file.new) ≡ store_at file.old layout name number }
 {
     let order = order_of(layout);
-    match place_in(file, layout, name) {
-        PlaceAnswer::At(place) => put(file, order, place, number),
-        PlaceAnswer::Refused(refusal) => StoreAnswer::Refused(refusal),
-    }
+    let place = place_in(file, layout, name)?;
+    put(file, order, place, number)
 }
 
 // Stores a number, 0 to 4,294,967,295, into the sample of a line and an element, both counted from 0, and a slot or band of an AREA file. Refused as
@@ -69,8 +64,8 @@ pub fn store_sample(
     element: u32,
     which: SlotOrBand,
     number: u32,
-) -> StoreAnswer
-    ensures { (store_says result, file.new) ≡ store_sample file.old layout line element which number }
+) -> Result<(), Refusal>
+    ensures { (says result, file.new) ≡ store_sample file.old layout line element which number }
 {
     let sample = ValueName::Sample {
         line: line,
@@ -87,8 +82,8 @@ pub fn store_point(
     row: u32,
     column: u32,
     value: i32,
-) -> StoreAnswer
-    ensures { (store_says result, file.new) ≡ store_point file.old layout row column value }
+) -> Result<(), Refusal>
+    ensures { (says result, file.new) ≡ store_point file.old layout row column value }
 {
     let point = ValueName::Point {
         row: row,
@@ -105,8 +100,8 @@ pub fn store_field(
     column: u32,
     position: u32,
     value: i32,
-) -> StoreAnswer
-    ensures { (store_says result, file.new) ≡ store_field file.old layout row column position value }
+) -> Result<(), Refusal>
+    ensures { (says result, file.new) ≡ store_field file.old layout row column position value }
 {
     let field = ValueName::Field {
         row: row,

@@ -1,14 +1,13 @@
 // What the program writes behind a line: numbers, each with a mark before it, or the number and place of a refusal.
-use calendar_rules::{DateAnswer, TimeAnswer};
+use calendar_rules::{Date, TimeOfDay};
+use grid_update_rules::Added;
+use span_rules::Span;
 use endian::unsigned;
 use extent_rules::Extent;
-use grid_update_rules::AddAnswer;
 use grid_updates_by_value::{PLACES, SHORT_PLACES};
-use layout_rules::{Layout, Opening};
-use refusal_rules::{NumberAnswer, Refusal, SizeAnswer, WordAnswer};
-use span_rules::SpanAnswer;
+use layout_rules::Layout;
+use refusal_rules::Refusal;
 use std::io;
-use store_rules::StoreAnswer;
 
 // The mark before the first number.
 pub const FIRST: char = ':';
@@ -67,37 +66,37 @@ fn say_refusal(rt: &impl Print, refusal: Refusal) -> io::Result<()> {
 }
 
 // Writes an unsigned number, or the refusal.
-pub fn say_number(rt: &impl Print, answer: NumberAnswer) -> io::Result<()> {
+pub fn say_number(rt: &impl Print, answer: Result<u32, Refusal>) -> io::Result<()> {
     match answer {
-        NumberAnswer::Value(n) => say(rt, FIRST, n as u64),
-        NumberAnswer::Refused(refusal) => say_refusal(rt, refusal),
+        Ok(n) => say(rt, FIRST, n as u64),
+        Err(refusal) => say_refusal(rt, refusal),
     }
 }
 
 // Writes a signed word, or the refusal.
-pub fn say_signed(rt: &impl Print, answer: WordAnswer) -> io::Result<()> {
+pub fn say_signed(rt: &impl Print, answer: Result<i32, Refusal>) -> io::Result<()> {
     match answer {
-        WordAnswer::Value(v) => say_word(rt, FIRST, v),
-        WordAnswer::Refused(refusal) => say_refusal(rt, refusal),
+        Ok(v) => say_word(rt, FIRST, v),
+        Err(refusal) => say_refusal(rt, refusal),
     }
 }
 
 // Writes a size, as how many places a copy wrote, or the refusal.
-pub fn say_size(rt: &impl Print, answer: SizeAnswer) -> io::Result<()> {
+pub fn say_size(rt: &impl Print, answer: Result<usize, Refusal>) -> io::Result<()> {
     match answer {
-        SizeAnswer::Value(n) => say(rt, FIRST, n as u64),
-        SizeAnswer::Refused(refusal) => say_refusal(rt, refusal),
+        Ok(n) => say(rt, FIRST, n as u64),
+        Err(refusal) => say_refusal(rt, refusal),
     }
 }
 
 // Writes the start and the length of a part of the file, or the refusal.
-pub fn say_span(rt: &impl Print, answer: SpanAnswer) -> io::Result<()> {
+pub fn say_span(rt: &impl Print, answer: Result<Span, Refusal>) -> io::Result<()> {
     match answer {
-        SpanAnswer::At(span) => {
+        Ok(span) => {
             say(rt, FIRST, span.start as u64)?;
             say(rt, NEXT, span.length as u64)
         }
-        SpanAnswer::Refused(refusal) => say_refusal(rt, refusal),
+        Err(refusal) => say_refusal(rt, refusal),
     }
 }
 
@@ -139,10 +138,10 @@ pub fn say_words(rt: &impl Print, out: &[i32]) -> io::Result<()> {
 }
 
 // Writes that a store was made, or the refusal.
-pub fn say_store(rt: &impl Print, answer: StoreAnswer) -> io::Result<()> {
+pub fn say_store(rt: &impl Print, answer: Result<(), Refusal>) -> io::Result<()> {
     match answer {
-        StoreAnswer::Done => print(rt, b": stored"),
-        StoreAnswer::Refused(refusal) => say_refusal(rt, refusal),
+        Ok(()) => print(rt, b": stored"),
+        Err(refusal) => say_refusal(rt, refusal),
     }
 }
 
@@ -177,30 +176,30 @@ pub fn say_places(rt: &impl Print, table: [Extent; SHORT_PLACES]) -> io::Result<
 }
 
 // Writes the number and the address of a grid that was added and how many free stretches there are, or the refusal.
-pub fn say_added(rt: &impl Print, answer: AddAnswer) -> io::Result<()> {
+pub fn say_added(rt: &impl Print, answer: Result<Added, Refusal>) -> io::Result<()> {
     match answer {
-        AddAnswer::Done(added) => {
+        Ok(added) => {
             say(rt, FIRST, added.number as u64)?;
             say(rt, NEXT, added.address as u64)?;
             say(rt, NEXT, added.stretches as u64)
         }
-        AddAnswer::Refused(refusal) => say_refusal(rt, refusal),
+        Err(refusal) => say_refusal(rt, refusal),
     }
 }
 
 // Writes year, month and day, or the refusal.
-pub fn say_date(rt: &impl Print, answer: DateAnswer) -> io::Result<()> {
+pub fn say_date(rt: &impl Print, answer: Result<Date, Refusal>) -> io::Result<()> {
     match answer {
-        DateAnswer::On(date) => say_three(rt, date.year, date.month, date.day),
-        DateAnswer::Refused(refusal) => say_refusal(rt, refusal),
+        Ok(date) => say_three(rt, date.year, date.month, date.day),
+        Err(refusal) => say_refusal(rt, refusal),
     }
 }
 
 // Writes hours, minutes and seconds, or the refusal.
-pub fn say_time(rt: &impl Print, answer: TimeAnswer) -> io::Result<()> {
+pub fn say_time(rt: &impl Print, answer: Result<TimeOfDay, Refusal>) -> io::Result<()> {
     match answer {
-        TimeAnswer::At(time) => say_three(rt, time.hours, time.minutes, time.seconds),
-        TimeAnswer::Refused(refusal) => say_refusal(rt, refusal),
+        Ok(time) => say_three(rt, time.hours, time.minutes, time.seconds),
+        Err(refusal) => say_refusal(rt, refusal),
     }
 }
 
@@ -213,9 +212,9 @@ fn say_layout(rt: &impl Print, layout: Layout) -> io::Result<()> {
 }
 
 // Writes what an opening gives, or the refusal.
-pub fn say_opening(rt: &impl Print, answer: Opening) -> io::Result<()> {
+pub fn say_opening(rt: &impl Print, answer: Result<Layout, Refusal>) -> io::Result<()> {
     match answer {
-        Opening::Opened(layout) => say_layout(rt, layout),
-        Opening::Refused(refusal) => say_refusal(rt, refusal),
+        Ok(layout) => say_layout(rt, layout),
+        Err(refusal) => say_refusal(rt, refusal),
     }
 }

@@ -15,8 +15,8 @@ use layout_rules::Layout;
 use md_keys::find_key;
 use md_records::copy_record;
 use reads::{read_field, read_point, read_sample};
-use refusal_rules::SizeAnswer;
 use std::io;
+use refusal_rules::Refusal;
 
 // The word `sample LINE ELEMENT SLOT`, the first of the words that read.
 pub const SAMPLE: u32 = 0;
@@ -214,7 +214,7 @@ fn copy_words(
     row: u32,
     column: u32,
     out: &mut [i32],
-) -> SizeAnswer {
+) -> Result<usize, Refusal> {
     match call {
         BY_COLUMNS => copy_by_columns(file, layout, out),
         BY_ROWS => copy_by_rows(file, layout, out),

@@ -8,10 +8,7 @@ use endian::signed;
 use endian_rules::Order;
 use endian_steps::{read_word, write_number};
 use extent_rules::Extent;
-use grid_updates_by_value::{
-    Addition, SHORT_PLACES, ShortAddition, ShortStretchTable, StretchTable, add_with_short_table,
-    add_with_table, delete_with_short_table, delete_with_table, free_stretches_with_table,
-};
+use grid_updates_by_value::{Addition, SHORT_PLACES, ShortAddition, ShortStretchTable, StretchTable, add_with_short_table, add_with_table, delete_with_short_table, delete_with_table, free_stretches_with_table};
 use layout_rules::Layout;
 use std::io;
 use stores::{store_field, store_point, store_sample};

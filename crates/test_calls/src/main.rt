@@ -14,17 +14,15 @@ mod words;
 use answers::{FIRST, end_line, print, say_date, say_opening, say_time, say_word};
 use asks::{SAMPLE, STORE_SAMPLE, ask};
 use calendar::{date_of, time_of};
-use changes::{
-    ADD, ADD_SHORT, add_grid, compare, copy_bytes, delete_grid, delete_short, make_bytes,
-    make_words, set_word, set_words, store_value, tell_stretches, word_at,
-};
+use changes::{ADD, ADD_SHORT, add_grid, compare, copy_bytes, delete_grid, delete_short, make_bytes, make_words, set_word, set_words, store_value, tell_stretches, word_at};
 use endian::signed;
 use endian_rules::Order;
 use layout::{open_area, open_grid, open_md};
-use layout_rules::{Layout, Opening};
+use layout_rules::Layout;
 use std::io;
 use std::io::Read;
 use words::{LINE_FEED, Numbers, index_from, numbers_in, word_number};
+use refusal_rules::Refusal;
 
 // The word `store-field`, the last word of a call that is asked with a layout: the one that opening the file gave where it last gave one.
 const STORE_FIELD: u32 = 26;
@@ -76,7 +74,7 @@ const DIFFERENCES: u32 = 43;
 
 // What a script is at: the kind of the file, as the word that makes it, and its length; the kind, the grid number and the length of the file that opening last gave a
 // layout for, whose bytes are kept; and the length of the copy that is kept.
-#[derive(Clone, Copy)]
+#[derive(Clone, Copy, Debug, PartialEq, Eq)]
 struct Subject {
     kind: u32,
     length: usize,
@@ -87,7 +85,7 @@ struct Subject {
 }
 
 // Opens a file of a kind.
-fn open_kind(file: &[u8], kind: u32, order: Order, number: u32) -> Opening {
+fn open_kind(file: &[u8], kind: u32, order: Order, number: u32) -> Result<Layout, Refusal> {
     match kind {
         AREA => open_area(file),
         GRID => open_grid(file, order, number),
@@ -128,8 +126,8 @@ fn ask_opened(
             order,
             subject.opened_number,
         ) {
-            Opening::Opened(layout) => ask_with(rt, file, layout, call, n)?,
-            Opening::Refused(_) => (),
+            Ok(layout) => ask_with(rt, file, layout, call, n)?,
+            Err(_) => (),
         }
     }
     Ok(())
@@ -222,11 +220,11 @@ fn open_file(
     let opening = open_kind(file, subject.kind, order, number);
     say_opening(rt, opening)?;
     match opening {
-        Opening::Opened(_) => {
+        Ok(_) => {
             copy_bytes(subject.length, file, bytes);
             Ok(opened(subject, number))
         }
-        Opening::Refused(_) => Ok(subject),
+        Err(_) => Ok(subject),
     }
 }
 

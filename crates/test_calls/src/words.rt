@@ -17,14 +17,14 @@ const ZERO: u8 = 48;
 const NINE: u8 = 57;
 
 // A number of a line, and whether the line has it. Where it has not, the number is 0.
-#[derive(Clone, Copy)]
+#[derive(Clone, Copy, Debug, PartialEq, Eq)]
 pub struct Number {
     pub present: bool,
     pub word: u32,
 }
 
 // The first five numbers of a line, 0 for each that it has not.
-#[derive(Clone, Copy)]
+#[derive(Clone, Copy, Debug, PartialEq, Eq)]
 pub struct Numbers {
     pub a: u32,
     pub b: u32,
@@ -34,7 +34,7 @@ pub struct Numbers {
 }
 
 // A number that is being read: whether a digit of it has been, whether a minus sign stands before it, and what its digits are, cut to 32 bits.
-#[derive(Clone, Copy)]
+#[derive(Clone, Copy, Debug, PartialEq, Eq)]
 struct Reading {
     begun: bool,
     negative: bool,

@@ -2,31 +2,28 @@
 #![tactic(auto)]
 
 ghost use Rattle.std.specs.Prelude.{◌≡◌};
-ghost use Rattle.refusal_rules.specs.Answers.{place_says};
+ghost use Rattle.refusal_rules.specs.Answers.{says};
 ghost use Rattle.value_rules.specs.Places.{place_of};
 
 use area_places::sample_place;
 use grid_places::point_place;
 use layout_rules::Layout;
 use md_places::field_place;
-use refusal_rules::{NO_SUCH, PlaceAnswer, Refusal};
+use refusal_rules::{Place, Refusal};
 use value_rules::ValueName;
 
 // Refusal 7, for a layout of another kind than the name of the value.
-fn no_such() -> PlaceAnswer
+fn no_such() -> Result<Place, Refusal>
     ensures { result ≡ PlaceAnswer.Refused (record { number = 7; place = 0 }) }
 {
-    PlaceAnswer::Refused(Refusal {
-        number: NO_SUCH,
-        place: 0,
-    })
+    Err(Refusal::NoSuch)
 }
 
 // Where a named value lies, by a layout alone. Refused with 7 where the layout is of another kind than the name, then with 4 at 19 where a band is named and
 // the band map is unusable, then with 7 where there is no such line, element, slot, band, point or field, or the layout is above the bounds that opening sets.
 #[tactic(auto, unfolding(value_rules::specs::Places::place_of))]
-pub fn place_of(layout: Layout, name: ValueName) -> PlaceAnswer
-    ensures { place_says result ≡ place_of layout name }
+pub fn place_of(layout: Layout, name: ValueName) -> Result<Place, Refusal>
+    ensures { says result ≡ place_of layout name }
 {
     match name {
         ValueName::Sample {

@@ -4,7 +4,7 @@ use mathlib.Core.Path.{◌≡◌, sym, ap, ap₂, ◌∙◌}
 use Prim.Native.Nat.{ℕ, ◌+◌, ◌*◌}
 use native.Mathlib.Omega.{arith}
 use borrow.Author.Tests.{ne_eqb}
-use Rattle.refusal_rules.specs.Answers.{gives, size_says}
+use Rattle.refusal_rules.specs.Answers.{gives, says}
 use Rattle.refusal_rules.specs.Rules.{judge, first, first_fault}
 use Rattle.refusal_rules.proofs.Answers.{gives-refuses, gives-same}
 use Rattle.area_rules.specs.Blocks.{block_length}
@@ -20,14 +20,14 @@ bytes_at_After_struct_known_in_Value_1 : (c : goal.After-struct_known-in-Value-1
     → let l = c.args.l in c.in-Value.«data» ≡ l.lines * line_length_in l
 bytes_at_After_struct_known_in_Value_1 c =
     let s = c in
-    gives-same (ap size_says (sym c.in-Value.is) ∙ c.data_length.ensures ∙ data_length s.args.l s.requires)
+    gives-same (ap says (sym c.in-Value.is) ∙ c.data_length.ensures ∙ data_length s.args.l s.requires)
 
 -- the bytes of DATA that were found
 bytes_at_After_struct_known_in_Value_2_1 : (c : goal.After-struct_known-in-Value-2-1)
     → let l = c.args.l in c.in-Value.«data» ≡ l.lines * line_length_in l
 bytes_at_After_struct_known_in_Value_2_1 c =
     let s = c in
-    gives-same (ap size_says (sym c.in-Value.is) ∙ c.data_length.ensures ∙ data_length s.args.l s.requires)
+    gives-same (ap says (sym c.in-Value.is) ∙ c.data_length.ensures ∙ data_length s.args.l s.requires)
 
 pub overflow_add-result : goal.overflow_add-result
 overflow_add-result c =
@@ -37,7 +37,7 @@ overflow_add-result c =
 pub returns-in-Refused : goal.returns-in-Refused
 returns-in-Refused c =
     let s = c in
-    gives-refuses (sym (data_length s.args.l s.requires) ∙ sym c.data_length.ensures ∙ ap size_says c.in-Refused.is)
+    gives-refuses (sym (data_length s.args.l s.requires) ∙ sym c.data_length.ensures ∙ ap says c.in-Refused.is)
 
 pub returns-in-Value : goal.returns-in-Value
 unfolding block_of block_rules first_fault first judge

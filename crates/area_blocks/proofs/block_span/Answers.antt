@@ -1,9 +1,9 @@
 -- `area_blocks::block_span` meets its contract: the layout that is found has the span, and a refusal is passed on.
 -- Assumes nothing.
 use mathlib.Core.Path.{sym, ap, ◌∙◌}
-use Rattle.area_rules.specs.Opening.{area_says}
 use Rattle.layout_rules.proofs.OneKind.{area_known}
 use Rattle.area_blocks.proofs.block_span.Goals as goal
+use Rattle.refusal_rules.specs.Answers.{says}
 
 pub span_of-requires : goal.span_of-requires
-span_of-requires c = (area_known _ _ _ (sym c.area_of.ensures ∙ ap area_says c.in-Opened.is)).fits
+span_of-requires c = (area_known _ _ _ (sym c.area_of.ensures ∙ ap says c.in-Opened.is)).fits

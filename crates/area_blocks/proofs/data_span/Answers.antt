@@ -3,7 +3,7 @@
 use mathlib.Core.Path.{◌≡◌, sym, ap, ◌∙◌}
 use Prim.Native.Nat.{ℕ, ◌*◌}
 use native.Mathlib.Omega.{arith}
-use Rattle.refusal_rules.specs.Answers.{gives, size_says}
+use Rattle.refusal_rules.specs.Answers.{gives, says}
 use Rattle.refusal_rules.specs.Rules.{judge, first, first_fault}
 use Rattle.refusal_rules.proofs.Answers.{gives-refuses, gives-same}
 use Rattle.area_rules.specs.Blocks.{block_length}
@@ -17,7 +17,7 @@ use Rattle.area_blocks.proofs.data_span.Goals as goal
 pub returns-in-Refused : goal.returns-in-Refused
 returns-in-Refused c =
     let s = c in
-    gives-refuses (sym (data_length s.args.l s.requires) ∙ sym c.data_length.ensures ∙ ap size_says c.in-Refused.is)
+    gives-refuses (sym (data_length s.args.l s.requires) ∙ sym c.data_length.ensures ∙ ap says c.in-Refused.is)
 
 pub returns-in-Value : goal.returns-in-Value
 unfolding block_of block_rules first_fault first judge
@@ -25,6 +25,6 @@ returns-in-Value c =
     let s = c in
     let l = s.args.l in
     let bytes : c.in-Value.length ≡ l.lines * line_length_in l =
-    gives-same (ap size_says (sym c.in-Value.is) ∙ c.data_length.ensures ∙ data_length l s.requires) in
+    gives-same (ap says (sym c.in-Value.is) ∙ c.data_length.ensures ∙ data_length l s.requires) in
     let size : c.in-Value.length ≡ block_length l Data = omega (arith, bytes) in
     ap (λ (n : ℕ). gives (span l.data_start n)) size

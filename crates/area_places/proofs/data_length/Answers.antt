@@ -4,7 +4,7 @@ use mathlib.Core.Path.{◌≡◌, sym, ap, ◌∙◌}
 use Prim.Native.Nat.{ℕ, ◌*◌}
 use native.Mathlib.Nat.{le_refl}
 use native.Mathlib.Omega.{arith}
-use Rattle.refusal_rules.specs.Answers.{gives, size_says}
+use Rattle.refusal_rules.specs.Answers.{gives, says}
 use Rattle.area_rules.specs.Places.{length_of_line}
 use Rattle.area_rules.proofs.Places.{line_length_exactly}
 use Rattle.area_rules.proofs.Sizes.{lines_most}
@@ -12,7 +12,7 @@ use Rattle.area_places.proofs.data_length.Goals as goal
 
 -- the length of a line that was found
 line_is : (c : goal.After-struct_known-1) → length_of_line c.args.layout ≡ gives c.in-Value.line
-line_is c = sym c.line_length.ensures ∙ ap size_says c.in-Value.is
+line_is c = sym c.line_length.ensures ∙ ap says c.in-Value.is
 
 pub overflow_mul-length : goal.overflow_mul-length
 overflow_mul-length c =

@@ -3,7 +3,7 @@
 use mathlib.Core.Path.{◌≡◌, refl, sym, ap, ◌∙◌}
 use Prim.Native.Nat.{◌+◌, ◌<◌}
 use native.Mathlib.Omega.{arith}
-use Rattle.refusal_rules.specs.Answers.{gives, size_says}
+use Rattle.refusal_rules.specs.Answers.{gives, says}
 use Rattle.refusal_rules.specs.Rules.{first_fault, chained}
 use Rattle.refusal_rules.proofs.Answers.{gives-refuses, gives-same}
 use Rattle.refusal_rules.proofs.Tables.{by_table, pass_hold}
@@ -49,7 +49,7 @@ found : (c : goal.After-struct_known-in-Value-1) → let a = c.args in c.in-Valu
 found c =
     let s = c in
     gives-same
-    (ap size_says (sym c.in-Value.is)
+    (ap says (sym c.in-Value.is)
     ∙ c.line_start.ensures
     ∙ (line_start_lem s.args.l s.requires s.args.line _).1 (line_at_After_struct_known_in_Value_1 c, refl))
 
@@ -77,7 +77,7 @@ returns-in-Refused c =
     gives-refuses
     (sym ((line_start_lem s.args.l s.requires s.args.line (line_start s.args.l s.args.line)).1 (line_at_In_Refused c, refl))
     ∙ sym c.line_start.ensures
-    ∙ ap size_says c.in-Refused.is)
+    ∙ ap says c.in-Refused.is)
 
 pub returns-in-Value : goal.returns-in-Value
 unfolding region_of

@@ -1,11 +1,10 @@
 -- `fresh_layout::grid_of` meets its contract: a fresh layout is what its kind says of it, and a stale one is refused with 9.
 -- Assumes nothing.
 use mathlib.Core.Path.{sym, ap, ◌∙◌}
-use Rattle.grid_rules.specs.Opening.{grid_says}
-use Rattle.grid_rules.specs.declared.GridOpening.TheVariants.{Refused}
 use Rattle.layout_rules.specs.Found.{as_grid}
 use Rattle.layout_rules.proofs.Freshness.{found_told, stale_told}
 use Rattle.fresh_layout.proofs.grid_of.Goals as goal
+use Rattle.refusal_rules.specs.Answers.{says}
 
 pub returns-then-is_fresh : goal.returns-then-is_fresh
 returns-then-is_fresh c =
@@ -15,5 +14,5 @@ returns-then-is_fresh c =
 pub returns-else-is_fresh : goal.returns-else-is_fresh
 returns-else-is_fresh c =
     let a = c.args in
-    ap (λ r. grid_says (Refused r)) c.refused.ensures
+    ap (λ r. says (Refused r)) c.refused.ensures
     ∙ sym (stale_told as_grid a.file.now a.layout c.is_fresh.ensures c.if-is_fresh.false)

@@ -4,8 +4,7 @@ use mathlib.Core.Path.{sym, ◌∙◌}
 use native.Mathlib.Omega.{arith}
 use lib.ListN.{length}
 use Rattle.endian_rules.specs.Words.{word_at}
-use Rattle.refusal_rules.specs.Rules.{first}
-use Rattle.refusal_rules.specs.declared.Verdict.TheVariants.{Pass, Fault}
+use Rattle.refusal_rules.specs.Rules.{first, Pass, Fault}
 use Rattle.grid_rules.specs.Rules.{next_free}
 use Rattle.grid_rules.specs.Accepts.{GridRoom}
 use Rattle.grid_rules.proofs.Slots.{head-room}

@@ -1,7 +1,7 @@
 -- `grid::open` meets its contract: opening goes by the file's verdict.
 -- Assumes nothing.
 use mathlib.Core.Path.{sym, ◌∙◌}
-use Rattle.refusal_rules.specs.declared.Verdict.TheVariants.{Pass, Fault}
+use Rattle.refusal_rules.specs.Rules.{Pass, Fault}
 use Rattle.grid_rules.specs.Opening.{open_grid}
 use Rattle.grid_rules.proofs.Acceptance.{open_split}
 use Rattle.grid.proofs.open.Goals as goal

@@ -4,8 +4,7 @@
 use mathlib.Core.Path.{sym, ap, ◌∙◌}
 use native.Mathlib.Omega.{arith}
 use Rattle.endian_rules.specs.Words.{word_at}
-use Rattle.refusal_rules.specs.Rules.{first, first_fault}
-use Rattle.refusal_rules.specs.declared.Verdict.TheVariants.{Pass, Fault}
+use Rattle.refusal_rules.specs.Rules.{first, first_fault, Pass, Fault}
 use Rattle.grid_rules.specs.Rules.{overlap_rule}
 use Rattle.grid_rules.specs.Accepts.{FullSlot}
 use Rattle.grid_rules.proofs.Slots.{own_end, empty_slot_lem, full_verdict}

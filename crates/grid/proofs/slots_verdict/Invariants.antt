@@ -3,8 +3,7 @@
 use mathlib.Core.Path.{◌≡◌}
 use Prim.Native.Nat.{◌-◌, ◌≤◌}
 use Rattle.endian_rules.specs.Words.{word_at}
-use Rattle.refusal_rules.specs.Rules.{first_fault}
-use Rattle.refusal_rules.specs.declared.Verdict.TheVariants.{Pass}
+use Rattle.refusal_rules.specs.Rules.{first_fault, Pass}
 use Rattle.grid_rules.specs.Rules.{slots_rules}
 use Rattle.grid.proofs.slots_verdict.Given as goal
 

@@ -4,8 +4,7 @@ use mathlib.Core.Path.{◌≡◌, sym, ◌∙◌}
 use Prim.Native.Nat.{◌<◌}
 use native.Mathlib.Omega.{arith}
 use Rattle.endian_rules.specs.Words.{word_at}
-use Rattle.refusal_rules.specs.Rules.{first, first_fault, chained}
-use Rattle.refusal_rules.specs.declared.Verdict.TheVariants.{Pass, Fault}
+use Rattle.refusal_rules.specs.Rules.{first, first_fault, chained, Pass, Fault}
 use Rattle.refusal_rules.proofs.Tables.{by_table, joined}
 use Rattle.grid_rules.specs.Rules.{header_rules, own_rules}
 use Rattle.grid_rules.proofs.Slots.{header-end}

@@ -7,9 +7,8 @@ use native.Mathlib.Omega.{arith}
 use lib.ListN.{length}
 use lib.Seq.{sets, length-sets}
 use Rattle.endian_rules.specs.Words.{word_at}
-use Rattle.refusal_rules.specs.Rules.{first_fault}
+use Rattle.refusal_rules.specs.Rules.{first_fault, Pass}
 use Rattle.refusal_rules.specs.Answers.{gives}
-use Rattle.refusal_rules.specs.declared.Verdict.TheVariants.{Pass}
 use Rattle.extent_rules.specs.Stretches.{first_word, highest_end}
 use Rattle.extent_rules.specs.Steps.{GridAccepted, SlotsInside}
 use Rattle.extent_rules.specs.declared.Extent.{Extent}

@@ -6,8 +6,7 @@ use Prim.Native.Nat.{ℕ, ◌+◌, ◌<◌}
 use native.Mathlib.Omega.{arith}
 use lib.ListN.{length}
 use Rattle.endian_rules.specs.Words.{word_at}
-use Rattle.refusal_rules.specs.Rules.{first_fault}
-use Rattle.refusal_rules.specs.declared.Verdict.TheVariants.{Pass}
+use Rattle.refusal_rules.specs.Rules.{first_fault, Pass}
 use Rattle.grid_rules.specs.Rules.{empty_slot}
 use Rattle.extent_rules.specs.Stretches.{first_word, highest_end}
 use Rattle.extent_rules.specs.Steps.{GridAccepted, SlotsInside}

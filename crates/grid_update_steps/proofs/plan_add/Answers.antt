@@ -4,8 +4,7 @@ use mathlib.Core.Path.{◌≡◌, sym, ap, ◌∙◌}
 use Prim.Native.Nat.{◌<◌}
 use native.Mathlib.Omega.{arith}
 use Rattle.endian_rules.specs.Words.{word_at}
-use Rattle.refusal_rules.specs.Rules.{first_fault}
-use Rattle.refusal_rules.specs.declared.Verdict.TheVariants.{Pass}
+use Rattle.refusal_rules.specs.Rules.{first_fault, Pass}
 use Rattle.extent_rules.specs.Steps.{survey}
 use Rattle.extent_rules.specs.declared.Survey.{Survey}
 use Rattle.extent_rules.proofs.Slots.{accepted_slots}

@@ -4,11 +4,8 @@ use mathlib.Core.Path.{◌≡◌, sym, ap, ◌∙◌}
 use mathlib.Core.List.{List, ◌++◌}
 use Prim.Native.Nat.{ℕ, ◌≤◌}
 use lib.ListN.{length, take}
-use Rattle.refusal_rules.specs.declared.Refusal.{Refusal}
-use Rattle.area_rules.specs.Opening.{area_says}
+use Rattle.refusal_rules.specs.Rules.{Refused}
 use Rattle.area_rules.specs.declared.AreaLayout.{AreaLayout}
-use Rattle.area_rules.specs.declared.AreaOpening.{AreaOpening}
-use Rattle.area_rules.specs.declared.AreaOpening.TheVariants.{Opened, Refused}
 use Rattle.listing_rules.specs.Listing.{listing_of}
 use Rattle.listing_rules.specs.Page.{layout_lines, block_lines, refusal_line, listing_text}
 use Rattle.listing_rules.specs.Steps.{empty_text, append_bytes}
@@ -16,14 +13,15 @@ use Rattle.listing_rules.specs.declared.BlockList.{BlockList}
 use Rattle.listing_rules.proofs.Appending.{append_more, append_three}
 use Rattle.listing_rules.proofs.Page.{listing_six, listing_said, listing_too_long}
 use Rattle.listing_text.proofs.text_of.Goals as goal
+use Rattle.refusal_rules.specs.Answers.{says}
 
 -- the text of a file that is short enough, by what opening it answers
-module _ (f : List ℕ) {o : AreaOpening} {b : BlockList} (e : (area_says o, b) ≡ listing_of f) (h : length f ≤ 65536) where
+module _ (f : List ℕ) {o : Result AreaLayout Refusal} {b : BlockList} (e : (says o, b) ≡ listing_of f) (h : length f ≤ 65536) where
   opened : {l : AreaLayout} → o ≡ Opened l → layout_lines l ++ block_lines (take b.count b.entries) ≡ listing_text f
-  opened q = listing_said f (ap (λ x. (area_says x, b)) (sym q) ∙ e) h
+  opened q = listing_said f (ap (λ x. (says x, b)) (sym q) ∙ e) h
 
-  refused : {r : Refusal} → o ≡ Refused r → refusal_line r.number r.place ≡ listing_text f
-  refused q = listing_said f (ap (λ x. (area_says x, b)) (sym q) ∙ e) h
+  refused : {r : Refused} → o ≡ Refused r → refusal_line r.number r.place ≡ listing_text f
+  refused q = listing_said f (ap (λ x. (says x, b)) (sym q) ∙ e) h
 
 pub returns-then-file-gt65536 : goal.returns-then-file-gt65536
 unfolding empty_text

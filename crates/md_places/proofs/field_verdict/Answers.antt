@@ -4,7 +4,7 @@ use mathlib.Core.Path.{sym, ◌∙◌}
 use mathlib.Core.List.{[], ◌∷◌}
 use Rattle.refusal_rules.specs.Rules.{rule, chained}
 use Rattle.refusal_rules.specs.Tests.{within}
-use Rattle.refusal_rules.proofs.Tables.{by_chain, first_fault-append}
+use Rattle.refusal_rules.proofs.Tables.{by_chain, joined_faults}
 use Rattle.md_rules.specs.Fields.{fields_of}
 use Rattle.md_rules.specs.Places.{part_rules, field_rules}
 use Rattle.md_places.proofs.field_verdict.Goals as goal
@@ -15,4 +15,4 @@ returns c =
     let a = c.args in
     by_chain _ (rule (within 1 (fields_of a.layout a.row a.column) a.position) 7 0 ∷ [])
     (rw (c.check.ensures, c.within.ensures, c.fields_of-fields.ensures, c.part_verdict-part.ensures))
-    ∙ sym (first_fault-append (part_rules a.layout a.row a.column) _)
+    ∙ sym (joined_faults (part_rules a.layout a.row a.column) _)
