@@ -10,7 +10,7 @@ use native.Mathlib.Omega.{arith}
 use borrow.Author.Tests.{lt-ltb}
 use lib.IntN.{ℤ}
 use lib.ListN.{length}
-use Rattle.std.specs.Prelude.{Result, Ok, Err}
+use Rattle.std.specs.Prelude.{Result}
 use Rattle.lists.specs.Lists.{list_of, over}
 use Rattle.lists.proofs.Built.{length-list_of, get_or-list_of}
 use Rattle.lists.proofs.Filled.{length-over, over_front, over_again}
@@ -28,7 +28,7 @@ use Rattle.extent_rules.proofs.Runs.{stretches_listed, stretches_few, stretches_
 use Rattle.extent_rules.proofs.Fit.{searched-room}
 use Rattle.grid_update_rules.specs.Updates.{stretches_of, answer_and_table, file_left, changed, stretch_rules, tell_stretches, delete_rules, without_grid, delete_grid, grid_words, address_for, add_rules, with_grid, added, add_grid}
 use Rattle.grid_update_rules.proofs.Deleted.{delete_passes, deleted_accepted, deleted_count}
-use Rattle.grid_update_rules.proofs.Addition.{AddAsked, AddPasses, add_passes, added-length, added_accepted, added_count, added_starts}
+use Rattle.grid_update_rules.proofs.Addition.{AddPasses, add_passes, added-length, added_accepted, added_count, added_starts}
 use Rattle.grid_update_rules.proofs.Exact.{tell_passes}
 use Rattle.grid_update_rules.specs.Steps.{stretch_says, addition_says, counted_stretches, stepped, tell_step, delete_step, refused_plan, plan_of, add_plan, add_step, Ready}
 use Rattle.grid_update_rules.proofs.Plans.{plan_is, plan_refuses}
@@ -43,6 +43,9 @@ runs o g count = list_of (λ i. nth_run o g (suc i)) count
 runs_none : (o : Order) (g : List ℕ) (t : List Extent) → runs_over o g 0 t ≡ t
 unfolding list_of
 runs_none o g t = refl
+
+none_filled : (o : Order) (g : List ℕ) (count : ℕ) (t : List Extent) → count ≡ 0 → t ≡ runs_over o g count t
+none_filled o g count t none = sym (runs_none o g t) ∙ ap (λ (n : ℕ). runs_over o g n t) (sym none)
 
 -- what filling `count` places of a table of `size` pairs from a file asks
 abbrev Fillable : Order → List ℕ → ℕ → ℕ → Type 0
@@ -115,6 +118,10 @@ module _ (o : Order) (f : List ℕ) (t : List Extent) (d : Result ℕ Refusal) (
   unfolding tell_stretches
   tell_done = ap (λ (x : Answer ℕ × (List ℕ × List Extent)). (x.0, x.1.1)) (tells.done t)
 
+  -- where none is to be filled, the table as it was is that of the call
+  pub tell_kept : (stretch_says d).1 ≡ 0 → ((stretch_says d).0, t) ≡ tell_stretches o f t
+  tell_kept none = ap (λ (u : List Extent). ((stretch_says d).0, u)) (none_filled o f (stretch_says d).1 t none) ∙ tell_done
+
 -- ---- deleting
 
 -- what deleting leaves, where its rules pass
@@ -142,6 +149,10 @@ module _ (o : Order) (f : List ℕ) (number : ℕ) (t : List Extent) (d : Result
   pub delete_done : ((stretch_says d).0, (g, runs_over o g (stretch_says d).1 t)) ≡ delete_grid o f number t
   unfolding delete_grid
   delete_done = deletes.done t
+
+  -- where none is to be filled, the table as it was is that of the call
+  pub delete_kept : (stretch_says d).1 ≡ 0 → ((stretch_says d).0, (g, t)) ≡ delete_grid o f number t
+  delete_kept none = ap (λ (u : List Extent). ((stretch_says d).0, (g, u))) (none_filled o g (stretch_says d).1 t none) ∙ delete_done
 
 -- ---- adding: the plan
 
