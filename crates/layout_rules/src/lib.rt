@@ -14,4 +14,3 @@ pub enum Layout {
     Grid(GridLayout),
     Md(MdLayout),
 }
-

@@ -40,7 +40,6 @@ use denote.Triple.Clauses.{Clauses, Ended, Lasts, AtExit, at_exit, lasts, ensure
 use denote.Triple.Entry.{Res, alive}
 use denote.Triple.Statement.{Contract, Triple}
 use Rattle.walks.proofs.Contracts.{Contracted}
-use Rattle.refusal_rules.specs.Answers.{says}
 
 -- the relation of x holds at its machine values
 pub at_value : (R : RattleType) (vals : R.Denot → List Val) → Tells R (Is R) vals → (x : R.Denot) (vs : List Val) → Is R x vs → Is R x (vals x)
