@@ -1,14 +1,12 @@
--- What is handed back: as many bytes as the span says, each the file's and where that lies, and none where the answer is a refusal. And what an answer says settles the answer, so
--- that a contract over what it says leaves no second answer.
+-- What is handed back: as many bytes as the span says, each the file's and where that lies, and none where the answer is a refusal.
 -- Assumes nothing.
-use mathlib.Core.Path.{◌≡◌, refl, sym, ap}
+use mathlib.Core.Path.{◌≡◌, refl}
 use mathlib.Core.List.{List, []}
 use Prim.Native.Nat.{ℕ, ◌+◌, ◌<◌}
 use native.Mathlib.Omega.{arith}
 use lib.ListN.{length, get_or}
 use Rattle.lists.proofs.Parts.{length-part, get_or-part}
-use Rattle.refusal_rules.specs.Answers.{gives, refuses, says}
-use Rattle.refusal_rules.proofs.Answers.{gives-refuses, gives-same, refuses-same}
+use Rattle.refusal_rules.specs.Answers.{gives, refuses}
 use Rattle.span_rules.specs.Spans.{handed, handed_at, Inside}
 use Rattle.span_rules.specs.declared.Span.{Span}
 
@@ -27,4 +25,3 @@ handed_there at s i = (refl, omega arith)
 -- nothing is handed back where the answer is a refusal
 pub handed_refused : (f : List ℕ) (n p : ℕ) → handed f (refuses n p) ≡ []
 handed_refused f n p = refl
-
