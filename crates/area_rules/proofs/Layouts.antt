@@ -7,7 +7,6 @@ use Prim.Native.Nat.{ℕ}
 use native.Mathlib.Omega.{arith}
 use lib.ListN.{get_or}
 use Rattle.endian_rules.proofs.Places.{order-same}
-use Rattle.refusal_rules.specs.Answers.{Answer, gives, refuses}
 use Rattle.refusal_rules.specs.Tests.{Exactly}
 use Rattle.refusal_rules.proofs.Exactness.{by_numbers}
 use Rattle.area_rules.specs.Opening.{flag_number, area_numbers, same_area}

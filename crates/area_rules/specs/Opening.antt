@@ -5,7 +5,7 @@ use Rattle.endian_rules.specs.Words.{order_number}
 use Rattle.endian_rules.specs.declared.Order.{Order}
 use Rattle.lists.specs.Choices.{pick}
 use Rattle.refusal_rules.specs.Rules.{first_fault}
-use Rattle.refusal_rules.specs.Answers.{Answer, gives, refuses, answered}
+use Rattle.refusal_rules.specs.Answers.{Answer, answered}
 use Rattle.refusal_rules.specs.Tests.{same_numbers}
 use Rattle.area_rules.specs.Rules.{directory_of, word_in, area_order, padding_length_of, area_word_rules, area_rules}
 use Rattle.area_rules.specs.Bands.{second_map}

@@ -61,4 +61,4 @@ pub enum SlotOrBand {
     Slot(u32),
     Band(u32),
 }
-// 
+//

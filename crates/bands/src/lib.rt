@@ -6,7 +6,7 @@ ghost use Rattle.refusal_rules.specs.Answers.{says};
 ghost use Rattle.area_rules.specs.Bands.{second_map, map_bit, set_below, has_band, band_slot, slot_of};
 
 use area_rules::{AreaLayout, SlotOrBand};
-use refusal::{check, within};
+use refusal::check;
 use refusal_rules::Refusal;
 
 // The second word of the band map of so many bands, as it counts: 0 unless there are more than 32.
@@ -30,7 +30,7 @@ fn map_bit(map: u32, map2: u32, i: u32) -> u32
 }
 
 // How many of the bits below bit n are set.
-#[tactic(auto, unfolding(area_rules::specs::Bands::set_below))]
+#[tactic(auto, using(area_rules::proofs::Bands::bit_most, area_rules::proofs::Bands::below_most), unfolding(area_rules::specs::Bands::set_below))]
 fn set_below(map: u32, map2: u32, n: u32) -> u32
     requires { n ≤ 64 }
     ensures { result ≡ set_below map map2 n }
@@ -43,14 +43,11 @@ fn set_below(map: u32, map2: u32, n: u32) -> u32
 }
 
 // Whether the map has a band.
+#[tactic(auto, unfolding(refusal_rules::specs::Tests::within))]
 fn has_band(map: u32, map2: u32, band: u32) -> bool
     ensures { result ≡ has_band map map2 band }
 {
-    if within(1, 64, band) {
-        map_bit(map, map2, band - 1) == 1
-    } else {
-        false
-    }
+    (1..=64).contains(&band) && map_bit(map, map2, band - 1) == 1
 }
 
 // The slot of a band in a map of `bands` bands, of which the second word counts only where there are more than 32. Refused with 4 at 19 where the map has not that many

@@ -9,27 +9,18 @@ ghost use Rattle.grid_rules.specs.Rules.{shares, slots_rules, slot_rules, grid_f
 ghost use Rattle.grid_rules.specs.Accepts.{GridRoom};
 ghost use Rattle.refusal_rules.specs.Answers.{says, verdict_of};
 
-use endian::order_number;
 use endian_rules::Order;
 use endian_steps::read_word;
 use grid_rules::{EMPTY_SLOT, GridLayout};
 use grid_steps::{head_verdict, meets_slot, open_wanted, own_verdict};
-use refusal::{and, check, equal_and};
+use refusal::check;
 use refusal_rules::Refusal;
 
-// Whether two GRID layouts are the same in every field. What has been compared up to a field is named after it.
-#[tactic(auto, unfolding(grid_rules::specs::Opening::same_grid, refusal_rules::specs::Tests::same_numbers))]
+// Whether two GRID layouts are the same in every field.
 pub fn same_grid(a: GridLayout, b: GridLayout) -> bool
     ensures { result ≡ same_grid a b }
 {
-    let a_order = a.order;
-    let b_order = b.order;
-    let columns = equal_and(a.columns, b.columns, true);
-    let rows = equal_and(a.rows, b.rows, columns);
-    let offset = equal_and(a.offset, b.offset, rows);
-    let number = equal_and(a.number, b.number, offset);
-    let length = and(a.length == b.length, number);
-    equal_and(order_number(a_order), order_number(b_order), length)
+    a == b
 }
 
 // Whether one of the first k slots has a word from `low` up to `high`. Their checks must have passed.
@@ -46,18 +37,16 @@ fn shares_word(
     requires { GridRoom (length file.now) n next × ((k < n) × (first_fault (slots_rules (word_at order file.now) n next k) ≡ Pass)) }
     ensures { result ≡ shares (word_at order file.now) low high k }
 {
-    let mut j = 0;
-    while j < k {
+    for j in 0..k {
         if meets_slot(file, order, n, next, j, low, high) {
             return true;
         }
-        j += 1;
     }
     false
 }
 
 // What the checks of slot k say. Those of the slots before it must have passed.
-#[tactic(auto, unfolding(refusal_rules::specs::Rules::first_fault, refusal_rules::specs::Rules::first, grid_rules::specs::Rules::overlap_rule))]
+#[tactic(auto, using(refusal_rules::proofs::Tables::joined_faults), unfolding(refusal_rules::specs::Rules::first_fault, refusal_rules::specs::Rules::first, grid_rules::specs::Rules::slot_rules, grid_rules::specs::Rules::overlap_rule))]
 fn slot_verdict(file: &[u8], order: Order, n: usize, next: usize, k: usize) -> Result<(), Refusal>
     requires { GridRoom (length file.now) n next × ((k < n) × (first_fault (slots_rules (word_at order file.now) n next k) ≡ Pass)) }
     ensures { verdict_of result ≡ first_fault (slot_rules (word_at order file.now) n next k) }
@@ -79,22 +68,15 @@ fn slots_verdict(file: &[u8], order: Order, n: usize, next: usize) -> Result<(),
     requires { GridRoom (length file.now) n next }
     ensures { verdict_of result ≡ first_fault (slots_rules (word_at order file.now) n next n) }
 {
-    let mut k = 0;
-    while k < n {
-        match slot_verdict(file, order, n, next, k) {
-            Err(refusal) => {
-                return Err(refusal);
-            }
-            Ok(()) => {}
-        }
-        k += 1;
+    for k in 0..n {
+        slot_verdict(file, order, n, next, k)?;
     }
     Ok(())
 }
 
 // What the checks of a whole GRID file say, before a grid of it is asked for: 1 to 5 with document 01's places. The first fault of the lowest
 // slot that has one comes first.
-#[tactic(auto, unfolding(refusal_rules::specs::Rules::first))]
+#[tactic(auto, using(refusal_rules::proofs::Tables::joined_faults), unfolding(grid_rules::specs::Rules::grid_file_rules, refusal_rules::specs::Rules::first))]
 pub fn file_verdict(file: &[u8], order: Order) -> Result<(), Refusal>
     ensures { verdict_of result ≡ first_fault (grid_file_rules (length file.now) (word_at order file.now)) }
 {
@@ -106,7 +88,7 @@ pub fn file_verdict(file: &[u8], order: Order) -> Result<(), Refusal>
 
 // Opens the grid of a number, counted from 1, in a byte order. Refused by the first fault of the whole file, then with 7 where there is no such
 // grid, then with 6 where its slot is empty.
-#[tactic(auto, unfolding(grid_rules::specs::Opening::open_grid))]
+#[tactic(auto, using(refusal_rules::proofs::Tables::joined_faults), unfolding(grid_rules::specs::Opening::open_grid, grid_rules::specs::Opening::open_grid_words, grid_rules::specs::Opening::open_wanted, refusal_rules::specs::Rules::first))]
 pub fn open(file: &[u8], order: Order, number: u32) -> Result<GridLayout, Refusal>
     ensures { says result ≡ open_grid order file.now number }
 {

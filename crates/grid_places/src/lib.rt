@@ -14,7 +14,7 @@ use refusal::{and, check, within};
 use refusal_rules::{Place, Refusal};
 
 // What the rules of a point of a row and a column say: 7 where there is no such row or column.
-#[tactic(auto, unfolding(grid_rules::specs::Places::point_rules, grid_rules::specs::Bounds::grid_bounded, refusal_rules::specs::Rules::chained))]
+#[tactic(auto, unfolding(grid_rules::specs::Places::point_rules, grid_rules::specs::Bounds::grid_bounded, refusal_rules::specs::Rules::first_fault, refusal_rules::specs::Rules::first))]
 fn point_verdict(layout: GridLayout, row: u32, column: u32) -> Result<(), Refusal>
     ensures { verdict_of result ≡ first_fault (point_rules layout row column) }
 {
@@ -41,7 +41,7 @@ pub fn point_place(layout: GridLayout, row: u32, column: u32) -> Result<Place, R
 {
     point_verdict(layout, row, column)?;
     Ok(Place {
-            address: 4 * point_word(layout, row, column),
-            width: 4,
-        })
+        address: 4 * point_word(layout, row, column),
+        width: 4,
+    })
 }

@@ -14,7 +14,7 @@ use Rattle.endian_rules.proofs.Places.{one_order, order-same}
 use Rattle.endian_rules.proofs.Signs.{signed_at_least}
 use Rattle.lists.proofs.Rows.{compared}
 use Rattle.refusal_rules.specs.Rules.{Rule, first, first_fault, Hold, FirstFailing, Refused, Verdict, Pass, Fault}
-use Rattle.refusal_rules.specs.Answers.{Answer, gives, refuses, answered, says}
+use Rattle.refusal_rules.specs.Answers.{Answer, gives, refuses, answered}
 use Rattle.refusal_rules.specs.Tests.{Exactly}
 use Rattle.refusal_rules.proofs.Answers.{value_exactly, refusal_exactly}
 use Rattle.refusal_rules.proofs.Exactness.{eq_exactly, not_exactly, within_exactly, by_numbers}

@@ -18,4 +18,3 @@ pub struct GridLayout {
 
 // -1 as a raw word: the offset of an empty slot.
 pub const EMPTY_SLOT: u32 = 4294967295;
-

@@ -20,7 +20,7 @@ use refusal_rules::Refusal;
 
 // What the checks before the slots say: 1 where the file is shorter than 44 bytes, 3 at 10 for the number of grids, 5 at 10 where the
 // directory has no room, 5 at 11 + n for the next free word.
-#[tactic(auto, unfolding(grid_rules::specs::Rules::grid_head_rules, refusal_rules::specs::Rules::chained, refusal_rules::specs::Rules::first, refusal_rules::specs::Rules::first_fault, refusal_rules::specs::Rules::judge))]
+#[tactic(auto, unfolding(grid_rules::specs::Rules::grid_head_rules, refusal_rules::specs::Rules::first, refusal_rules::specs::Rules::first_fault, refusal_rules::specs::Rules::judge))]
 pub fn head_verdict(file: &[u8], order: Order) -> Result<(), Refusal>
     ensures { verdict_of result ≡ first_fault (grid_head_rules (length file.now) (word_at order file.now)) }
 {
@@ -46,8 +46,14 @@ fn count(n: u32, place: usize) -> Result<(), Refusal>
 }
 
 // What the header at an offset says: rows, columns, size and end. The caller must make sure that the 64 words of the header are inside the file.
-#[tactic(auto, unfolding(grid_rules::specs::Rules::size_rules, refusal_rules::specs::Rules::chained))]
-fn size_verdict(file: &[u8], order: Order, next: usize, k: usize, offset: usize) -> Result<(), Refusal>
+#[tactic(auto, unfolding(grid_rules::specs::Rules::size_rules, refusal_rules::specs::Rules::first_fault, refusal_rules::specs::Rules::first))]
+fn size_verdict(
+    file: &[u8],
+    order: Order,
+    next: usize,
+    k: usize,
+    offset: usize,
+) -> Result<(), Refusal>
     requires { (4 * next ≤ length file.now) × ((next < 2147483648) × ((k < 1024) × (offset + 64 ≤ next))) }
     ensures { verdict_of result ≡ first_fault (size_rules (word_at order file.now) next k offset) }
 {
@@ -56,7 +62,8 @@ fn size_verdict(file: &[u8], order: Order, next: usize, k: usize, offset: usize)
     let columns = read_word(order, file, offset + 2);
     let product = rows as usize * columns as usize;
     let end = offset + 64 + size as usize;
-    let counts = count(count(rows, offset + 1), columns, offset + 2);
+    count(rows, offset + 1)?;
+    count(columns, offset + 2)?;
     check(size < 2147483648, Refusal::RuleBroken(offset))?;
     check(size as usize == product, Refusal::RuleBroken(offset))?;
     check(end <= next, Refusal::Misplaced(11 + k))
@@ -64,8 +71,14 @@ fn size_verdict(file: &[u8], order: Order, next: usize, k: usize, offset: usize)
 
 // What the checks of slot k's grid say that look at no other slot. The slot is one that is not empty; an empty one is a fault of its offset. n and
 // `next` are the number of grids and the next free word. The caller must make sure that the checks before the slots have passed.
-#[tactic(auto, unfolding(grid_rules::specs::Rules::header_rules, refusal_rules::specs::Rules::chained, grid_rules::specs::Rules::own_rules, refusal_rules::specs::Rules::first))]
-pub fn own_verdict(file: &[u8], order: Order, n: usize, next: usize, k: usize) -> Result<(), Refusal>
+#[tactic(auto, using(refusal_rules::proofs::Tables::joined_faults), unfolding(grid_rules::specs::Rules::header_rules, grid_rules::specs::Rules::own_rules, refusal_rules::specs::Rules::first_fault, refusal_rules::specs::Rules::first))]
+pub fn own_verdict(
+    file: &[u8],
+    order: Order,
+    n: usize,
+    next: usize,
+    k: usize,
+) -> Result<(), Refusal>
     requires { GridRoom (length file.now) n next × (k < n) }
     ensures { verdict_of result ≡ first_fault (own_rules (word_at order file.now) n next k) }
 {
@@ -108,21 +121,17 @@ pub fn open_wanted(file: &[u8], order: Order, number: u32) -> Result<GridLayout,
     ensures { says result ≡ open_wanted order (length file.now) (word_at order file.now) number }
 {
     let n = read_word(order, file, 10);
-    if !within(1, n, number) {
-        return Err(Refusal::NoSuch);
-    }
+    check(within(1, n, number), Refusal::NoSuch)?;
     let offset = read_word(order, file, 10 + number as usize);
-    if offset == EMPTY_SLOT {
-        return Err(Refusal::Absent);
-    }
+    check(offset != EMPTY_SLOT, Refusal::Absent)?;
     let rows = read_word(order, file, offset as usize + 1);
     let columns = read_word(order, file, offset as usize + 2);
     Ok(GridLayout {
-        order: order,
+        order,
         length: file.len(),
-        number: number,
-        offset: offset,
-        rows: rows,
-        columns: columns,
+        number,
+        offset,
+        rows,
+        columns,
     })
 }

@@ -1,6 +1,6 @@
 -- The plan of an addition: what it is by the verdict of its rules, and what carrying it out may rest on.
 -- Assumes nothing.
-use mathlib.Core.Path.{◌≡◌, refl}
+use mathlib.Core.Path.{◌≡◌, refl, sym, ap}
 use mathlib.Core.List.{List}
 use Prim.Native.Nat.{ℕ, ◌+◌, ◌-◌, ◌*◌, ◌/◌, ◌≤◌}
 use native.Mathlib.Omega.{arith}
@@ -11,12 +11,15 @@ use Rattle.endian_rules.specs.Numbers.{encode}
 use Rattle.endian_rules.specs.Words.{word_at}
 use Rattle.endian_rules.specs.declared.Order.{Order}
 use Rattle.refusal_rules.specs.Rules.{first_fault, Refused, Verdict, Pass, Fault}
+use Rattle.refusal_rules.specs.Answers.{gives}
+use Rattle.refusal_rules.proofs.Answers.{gives-same, gives-refuses, refuses-same}
 use Rattle.extent_rules.specs.Steps.{survey}
 use Rattle.extent_rules.specs.declared.Survey.{Survey}
 use Rattle.extent_rules.proofs.Fit.{room-some}
 use Rattle.grid_update_rules.specs.Updates.{set_word, stretches_of, grid_words, lowest_empty, address_for, add_rules, added}
+use Rattle.grid_update_rules.specs.declared.AddPlan.{AddPlan}
 use Rattle.grid_update_rules.proofs.Addition.{AddPasses, add_passes}
-use Rattle.grid_update_rules.specs.Steps.{refused_plan, planned, add_plan}
+use Rattle.grid_update_rules.specs.Steps.{refused_plan, plan_of, planned, add_plan}
 
 module _ (o : Order) (f : List ℕ) (headers rows columns values size : ℕ) where
   -- where the rules refuse
@@ -27,24 +30,28 @@ module _ (o : Order) (f : List ℕ) (headers rows columns values size : ℕ) whe
   -- and where they pass, by the slot and the survey of the file
   pub plan_pass : first_fault (add_rules o f headers rows columns values size) ≡ Pass
       → (slot : ℕ) → slot ≡ lowest_empty (word_at o f) → (s : Survey) → s ≡ survey o f
-      → record { verdict = Pass; number = slot + 1; need = 64 + rows * columns; count = s.count - 1; last = s.last } ≡ add_plan o f headers rows columns values size
+      → gives (record { number = slot + 1; need = 64 + rows * columns; count = s.count - 1; last = s.last }) ≡ add_plan o f headers rows columns values size
   unfolding add_plan survey
   plan_pass e slot k s surveyed = rw (e, k, surveyed)
 
-  -- its verdict is that of the rules
-  pub plan_verdict : (add_plan o f headers rows columns values size).verdict ≡ first_fault (add_rules o f headers rows columns values size)
+  -- what is given as a plan is the plan, and the rules pass
+  pub plan_is : (p : AddPlan) → gives p ≡ add_plan o f headers rows columns values size
+      → (first_fault (add_rules o f headers rows columns values size) ≡ Pass) × (p ≡ plan_of o f rows columns)
   unfolding add_plan
-  plan_verdict = step (first_fault (add_rules o f headers rows columns values size))
+  plan_is p = step (first_fault (add_rules o f headers rows columns values size))
     where
-      step : (v : Verdict) → (planned v o f rows columns).verdict ≡ v
-      step Pass = refl
-      step (Fault r) = refl
+      step : (v : Verdict) → gives p ≡ planned v o f rows columns → (v ≡ Pass) × (p ≡ plan_of o f rows columns)
+      step Pass e = (refl, gives-same e)
+      step (Fault r) e = gives-refuses e
 
-  -- its number is that of the slot
-  pub plan-number : first_fault (add_rules o f headers rows columns values size) ≡ Pass → (add_plan o f headers rows columns values size).number ≡ lowest_empty
-      (word_at o f) + 1
+  -- what is refused as a plan is the fault of the rules
+  pub plan_refuses : (r : Refused) → refused_plan r ≡ add_plan o f headers rows columns values size → first_fault (add_rules o f headers rows columns values size) ≡ Fault r
   unfolding add_plan
-  plan-number e = rw e
+  plan_refuses r = step (first_fault (add_rules o f headers rows columns values size))
+    where
+      step : (v : Verdict) → refused_plan r ≡ planned v o f rows columns → v ≡ Fault r
+      step Pass e = gives-refuses (sym e)
+      step (Fault s) e = ap Fault (refuses-same (sym e))
 
   -- where they pass there is a free stretch
   pub pass_some : first_fault (add_rules o f headers rows columns values size) ≡ Pass → 1 ≤ length (stretches_of o f)

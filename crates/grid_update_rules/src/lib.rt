@@ -3,7 +3,6 @@
 #![tactic(auto)]
 
 use extent_rules::Extent;
-use refusal_rules::Refusal;
 
 // A grid that was added: its number, which is that of its slot, counted from 1; the word at which it begins; and how many free stretches the file has now.
 #[derive(Clone, Copy, Debug, PartialEq, Eq)]
@@ -13,28 +12,13 @@ pub struct Added {
     pub stretches: usize,
 }
 
-// What deleting a grid, or telling the free stretches, leaves to be done: what is answered, and how many places of the table are to be filled.
-#[derive(Clone, Copy, Debug, PartialEq, Eq)]
-pub struct StretchStep {
-    pub answer: Result<usize, Refusal>,
-    pub count: usize,
-}
-
-// The plan of an addition: what its rules say; and where they pass the number of its slot, counted from 1, how many words the grid needs, how many free
-// stretches the file has before the last, and the last. Only those before the last are put into the table to be searched: an addition may leave one stretch
-// fewer, and then the place of the last stays as it was.
+// The plan of an addition that its rules allow: the number of its slot, counted from 1, how many words the grid needs, how many free stretches the file has
+// before the last, and the last. Only those before the last are put into the table to be searched: an addition may leave one stretch fewer, and then the place of
+// the last stays as it was.
 #[derive(Clone, Copy, Debug, PartialEq, Eq)]
 pub struct AddPlan {
-    pub verdict: Result<(), Refusal>,
     pub number: u32,
     pub need: usize,
     pub count: usize,
     pub last: Extent,
-}
-
-// What adding a grid leaves to be done: what is answered, and how many places of the table are to be filled.
-#[derive(Clone, Copy, Debug, PartialEq, Eq)]
-pub struct AdditionStep {
-    pub answer: Result<Added, Refusal>,
-    pub count: usize,
 }

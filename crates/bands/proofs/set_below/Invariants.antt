@@ -1,4 +1,4 @@
--- `bands::set_below` meets its contract. The loop's invariant: the count is that of the bits below i.
+-- The loop of `bands::set_below`: the count is that of the bits below i.
 -- Assumes nothing.
 use mathlib.Core.Path.{◌≡◌}
 use Rattle.area_rules.specs.Bands.{set_below}
