@@ -55,7 +55,9 @@ pub fn is_fresh(file: &[u8], layout: Layout) -> bool
 {
     match layout {
         Layout::Area(l) => area::open(file).is_ok_and(|found| same_area(found, l)),
-        Layout::Grid(l) => grid::open(file, l.order, l.number).is_ok_and(|found| same_grid(found, l)),
+        Layout::Grid(l) => grid::open(file, l.order, l.number).is_ok_and(|found| same_grid(
+            found, l,
+        )),
         Layout::Md(l) => md::open(file, l.order).is_ok_and(|found| same_md(found, l)),
     }
 }
