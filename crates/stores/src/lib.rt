@@ -46,13 +46,12 @@ fn put(file: &mut [u8], order: Order, place: Place, number: u32) -> Result<(), R
 }
 
 // Stores the number that a value's bits are.
-#[tactic(auto, unfolding(store_theory::specs::Plans::outcome))]
+#[tactic(auto, using(value_rules::proofs::Reading::place_room), unfolding(store_theory::specs::Plans::outcome))]
 fn store(file: &mut [u8], layout: Layout, name: ValueName, number: u32) -> Result<(), Refusal>
     ensures { (says result, file.new) ≡ store_at file.old layout name number }
 {
-    let order = order_of(layout);
     let place = place_in(file, layout, name)?;
-    put(file, order, place, number)
+    put(file, order_of(layout), place, number)
 }
 
 // Stores a number, 0 to 4,294,967,295, into the sample of a line and an element, both counted from 0, and a slot or band of an AREA file. Refused as
@@ -68,9 +67,9 @@ pub fn store_sample(
     ensures { (says result, file.new) ≡ store_sample file.old layout line element which number }
 {
     let sample = ValueName::Sample {
-        line: line,
-        element: element,
-        which: which,
+        line,
+        element,
+        which,
     };
     store(file, layout, sample, number)
 }
@@ -85,10 +84,7 @@ pub fn store_point(
 ) -> Result<(), Refusal>
     ensures { (says result, file.new) ≡ store_point file.old layout row column value }
 {
-    let point = ValueName::Point {
-        row: row,
-        column: column,
-    };
+    let point = ValueName::Point { row, column };
     store(file, layout, point, unsigned(value))
 }
 
@@ -104,9 +100,9 @@ pub fn store_field(
     ensures { (says result, file.new) ≡ store_field file.old layout row column position value }
 {
     let field = ValueName::Field {
-        row: row,
-        column: column,
-        position: position,
+        row,
+        column,
+        position,
     };
     store(file, layout, field, unsigned(value))
 }
