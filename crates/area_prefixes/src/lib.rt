@@ -51,10 +51,8 @@ fn offset_of(lengths: &[usize; 5], k: usize) -> usize
     ensures { result ≡ segment_offset lengths.now k }
 {
     let mut offset: usize = 0;
-    let mut i: usize = 0;
-    while i < k {
+    for i in 0..k {
         offset += lengths[i];
-        i += 1;
     }
     offset
 }
@@ -73,7 +71,7 @@ fn region_in_prefix(l: AreaLayout, region: Region) -> Span
 }
 
 // The span of a region of a line's prefix in an accepted file.
-#[tactic(auto, unfolding(area_part_rules::specs::Regions::region_rules, refusal_rules::specs::Rules::chained, area_part_rules::specs::Regions::region_of))]
+#[tactic(auto, unfolding(area_part_rules::specs::Regions::region_rules, refusal_rules::specs::Rules::first_fault, refusal_rules::specs::Rules::first, refusal_rules::specs::Rules::judge, area_part_rules::specs::Regions::region_of))]
 fn region_of(l: AreaLayout, line: u32, region: Region) -> Result<Span, Refusal>
     requires { AreaFits l }
     ensures { says result ≡ region_of l line region }
@@ -81,13 +79,11 @@ fn region_of(l: AreaLayout, line: u32, region: Region) -> Result<Span, Refusal>
     let part = region_in_prefix(l, region);
     check(line < l.lines, Refusal::NoSuch)?;
     check(part.length != 0, Refusal::Absent)?;
-    match line_start(l, line) {
-            Err(refusal) => Err(refusal),
-            Ok(start) => Ok(Span {
-                start: start + part.start,
-                length: part.length,
-            }),
-        }
+    let start = line_start(l, line)?;
+    Ok(Span {
+        start: start + part.start,
+        length: part.length,
+    })
 }
 
 // Where a region of the prefix of a line, counted from 0, of an AREA file lies, or its padding: start and length in bytes. Refused with 9 where the layout is stale, then with
