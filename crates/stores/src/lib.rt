@@ -56,6 +56,7 @@ fn store(file: &mut [u8], layout: Layout, name: ValueName, number: u32) -> Resul
 
 // Stores a number, 0 to 4,294,967,295, into the sample of a line and an element, both counted from 0, and a slot or band of an AREA file. Refused as
 // `reads::read_sample`, and then with 8 where the number does not fit the bytes of a sample.
+#[tactic(auto, using(store_rules::proofs::Single::store_by_place))]
 pub fn store_sample(
     file: &mut [u8],
     layout: Layout,
@@ -75,6 +76,7 @@ pub fn store_sample(
 }
 
 // Stores a signed word into the point of a row and a column, both counted from 1, of a grid. Refused as `reads::read_point`.
+#[tactic(auto, using(store_rules::proofs::Single::store_by_place))]
 pub fn store_point(
     file: &mut [u8],
     layout: Layout,
@@ -89,6 +91,7 @@ pub fn store_point(
 }
 
 // Stores a signed word into the field at a position, counted from 1, of the part of an MD file that coordinates name. Refused as `reads::read_field`.
+#[tactic(auto, using(store_rules::proofs::Single::store_by_place))]
 pub fn store_field(
     file: &mut [u8],
     layout: Layout,
