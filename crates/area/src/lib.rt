@@ -1,20 +1,17 @@
 // AREA files, images: opening a file, and comparing layouts.
 #![tactic(auto)]
 
-ghost use Rattle.std.specs.Prelude.{◌≡◌, ◌≤◌, ◌++◌, length};
-ghost use Rattle.refusal_rules.specs.Tests.{same_numbers};
+ghost use Rattle.std.specs.Prelude.{◌≡◌, ◌≤◌, length};
 ghost use Rattle.area_rules.specs.Rules.{directory_of, word_in};
-ghost use Rattle.area_rules.specs.Opening.{area_layout_of, open_area_words, open_area_told, open_area, flag_number, prefix_numbers, block_numbers, same_area};
+ghost use Rattle.area_rules.specs.Opening.{area_layout_of, open_area_words, open_area_told, open_area, same_area};
 ghost use Rattle.refusal_rules.specs.Answers.{says};
 
 use area_directory::word_verdict;
 use area_rules::AreaLayout;
 use bands::second_map;
-use endian::order_number;
 use endian_rules::Order;
 use endian_steps::read_word;
 use prefix_lengths::padding_length;
-use refusal::{and, equal_and};
 use refusal_rules::Refusal;
 
 // The 64 words of a directory, read once in a byte order. Every rule is applied to them, and not to the file. W k, counted from 1, is
@@ -83,13 +80,11 @@ fn open_ordered(told: usize, order: Order, bytes: &[u8]) -> Result<AreaLayout, R
 // and place, by the first rule that fails: 1 where the file, or what is at hand, is shorter than 256 bytes, 2 at 2 where word 2 reads 4 in neither
 // order, 3 at a count outside its bounds, 4 at a word unequal to its rule, 5 at the start of a part that would be outside the file or over another
 // part.
+#[tactic(auto, using(area_rules::proofs::Directory::short_file, area_rules::proofs::Directory::short_directory, area_rules::proofs::Directory::opens_big, area_rules::proofs::Directory::opens_little, area_rules::proofs::Directory::opens_neither))]
 pub fn open_told(told: usize, directory: &[u8]) -> Result<AreaLayout, Refusal>
     ensures { says result ≡ open_area_told told directory.now }
 {
-    if told < 256 {
-        return Err(Refusal::ShortFile);
-    }
-    if directory.len() < 256 {
+    if told < 256 || directory.len() < 256 {
         return Err(Refusal::ShortFile);
     }
     if read_word(Order::Big, directory, 1) == 4 {

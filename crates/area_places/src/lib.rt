@@ -7,12 +7,12 @@ ghost use Rattle.refusal_rules.specs.Answers.{says, verdict_of};
 ghost use Rattle.refusal_rules.specs.Rules.{first_fault};
 ghost use Rattle.area_rules.specs.Bounds.{area_bounded, AreaBounds};
 ghost use Rattle.area_rules.specs.Samples.{line_length_in, line_start, sample_address};
-ghost use Rattle.area_rules.specs.Places.{length_of_line, length_of_data, line_start_of, sample_rules, sample_place};
+ghost use Rattle.area_rules.specs.Places.{length_of_line, length_of_data, line_rules, line_start_of, sample_rules, sample_place};
 
 use area_rules::{AreaLayout, SlotOrBand};
 use area_steps::line_bytes;
 use bands::slot_of;
-use refusal::{and, check};
+use refusal::check;
 use refusal_rules::{Place, Refusal};
 
 // Whether the fields that AREA addresses are computed from are within the bounds that opening sets.
@@ -20,11 +20,7 @@ use refusal_rules::{Place, Refusal};
 fn area_bounded(layout: AreaLayout) -> bool
     ensures { result ≡ area_bounded layout }
 {
-    let samples = and(layout.width <= 4, layout.bands <= 64);
-    and(
-        layout.lines <= 65535,
-        and(layout.elements <= 65535, samples),
-    )
+    layout.lines <= 65535 && layout.elements <= 65535 && layout.width <= 4 && layout.bands <= 64
 }
 
 // The line length, in bytes.
@@ -36,7 +32,7 @@ fn line_length_in(layout: AreaLayout) -> usize
 }
 
 // How many bytes a line of an AREA file has, its prefix among them. Refused with 7 where the layout is above the bounds that opening sets.
-#[tactic(auto, unfolding(refusal_rules::specs::Rules::chained, area_rules::specs::Places::length_of_line))]
+#[tactic(auto, unfolding(refusal_rules::specs::Rules::first_fault, refusal_rules::specs::Rules::first, area_rules::specs::Places::length_of_line))]
 pub fn line_length(layout: AreaLayout) -> Result<usize, Refusal>
     ensures { says result ≡ length_of_line layout }
 {
@@ -50,8 +46,7 @@ pub fn data_length(layout: AreaLayout) -> Result<usize, Refusal>
     ensures { says result ≡ length_of_data layout }
 {
     let line = line_length(layout)?;
-    let length = layout.lines as usize * line;
-    Ok(length)
+    Ok(layout.lines as usize * line)
 }
 
 // The byte at which a line begins, with its prefix.
@@ -62,18 +57,27 @@ fn line_at(layout: AreaLayout, line: u32) -> usize
     layout.data_start as usize + line as usize * line_length_in(layout)
 }
 
+// What the rules of the start of a line say: 7 where there is no such line.
+#[tactic(auto, unfolding(area_rules::specs::Places::line_rules, refusal_rules::specs::Rules::first_fault, refusal_rules::specs::Rules::first))]
+fn line_verdict(layout: AreaLayout, line: u32) -> Result<(), Refusal>
+    ensures { verdict_of result ≡ first_fault (line_rules layout line) }
+{
+    check(area_bounded(layout), Refusal::NoSuch)?;
+    check(line < layout.lines, Refusal::NoSuch)
+}
+
 // The byte at which a line of an AREA file begins, with its prefix, the line counted from 0. Refused with 7 where there is no such line, or the layout is above the
 // bounds that opening sets.
-#[tactic(auto, unfolding(area_rules::specs::Places::line_rules, refusal_rules::specs::Rules::chained, area_rules::specs::Places::line_start_of))]
+#[tactic(auto, unfolding(area_rules::specs::Places::line_start_of))]
 pub fn line_start(layout: AreaLayout, line: u32) -> Result<usize, Refusal>
     ensures { says result ≡ line_start_of layout line }
 {
-    check(area_bounded(layout), Refusal::NoSuch)?;
-    check(line < layout.lines, Refusal::NoSuch)?;
+    line_verdict(layout, line)?;
     Ok(line_at(layout, line))
 }
 
 // The byte at which the sample of a line, an element and a slot begins.
+#[tactic(auto, using(area_rules::proofs::Sizes::lines_most, area_rules::proofs::Sizes::bytes_most))]
 fn sample_address(layout: AreaLayout, line: u32, element: u32, slot: u32) -> usize
     requires { AreaBounds layout × ((line ≤ layout.lines) × ((element ≤ layout.elements) × (slot ≤ layout.bands))) }
     ensures { result ≡ sample_address layout line element slot }
@@ -83,27 +87,29 @@ fn sample_address(layout: AreaLayout, line: u32, element: u32, slot: u32) -> usi
 }
 
 // What the rules of a sample of a line and an element say: 7 where there is no such line or element.
-#[tactic(auto, unfolding(area_rules::specs::Places::sample_rules, refusal_rules::specs::Rules::chained))]
+#[tactic(auto, unfolding(area_rules::specs::Places::sample_rules, area_rules::specs::Places::line_rules, refusal_rules::specs::Rules::first_fault, refusal_rules::specs::Rules::first))]
 fn sample_verdict(layout: AreaLayout, line: u32, element: u32) -> Result<(), Refusal>
     ensures { verdict_of result ≡ first_fault (sample_rules layout line element) }
 {
-    check(area_bounded(layout), Refusal::NoSuch)?;
-    check(line < layout.lines, Refusal::NoSuch)?;
+    line_verdict(layout, line)?;
     check(element < layout.elements, Refusal::NoSuch)
 }
 
 // The place of a sample of an AREA file, named by line and element, both counted from 0, and slot or band. Refused with 4 at 19 where a band is named and the band
 // map is unusable, then with 7 where there is no such line, element, slot or band, or the layout is above the bounds that opening sets.
 #[tactic(auto, unfolding(area_rules::specs::Places::sample_place))]
-pub fn sample_place(layout: AreaLayout, line: u32, element: u32, which: SlotOrBand) -> Result<Place, Refusal>
+pub fn sample_place(
+    layout: AreaLayout,
+    line: u32,
+    element: u32,
+    which: SlotOrBand,
+) -> Result<Place, Refusal>
     ensures { says result ≡ sample_place layout line element which }
 {
     let slot = slot_of(layout, which)?;
-    match sample_verdict(layout, line, element) {
-            Err(refusal) => Err(refusal),
-            Ok(()) => Ok(Place {
-                address: sample_address(layout, line, element, slot),
-                width: layout.width as usize,
-            }),
-        }
+    sample_verdict(layout, line, element)?;
+    Ok(Place {
+        address: sample_address(layout, line, element, slot),
+        width: layout.width as usize,
+    })
 }

@@ -11,19 +11,16 @@ use calendar_rules::{Date, TimeOfDay};
 use refusal::{and, check, or, within};
 use refusal_rules::Refusal;
 
-// The days of a year before each of its months: of a common year, and then of a leap year.
-const DAYS_BEFORE: [u32; 24] = [
-    0, 31, 59, 90, 120, 151, 181, 212, 243, 273, 304, 334, 0, 31, 60, 91, 121, 152, 182, 213, 244,
-    274, 305, 335,
-];
+// The days of a common year before each of its months. A leap year has one more before each month from March on.
+const DAYS_BEFORE: [u32; 12] = [0, 31, 59, 90, 120, 151, 181, 212, 243, 273, 304, 334];
 
 // The days of a year before a month, which is counted from 0.
 fn days_before(leap: bool, month: usize) -> u32
     requires { month < 12 }
     ensures { result ≡ days_before leap month }
 {
-    if leap {
-        DAYS_BEFORE[12 + month]
+    if leap && 2 <= month {
+        DAYS_BEFORE[month] + 1
     } else {
         DAYS_BEFORE[month]
     }
@@ -50,14 +47,12 @@ fn year_length(leap: bool) -> u32
 fn month_of(leap: bool, day: u32) -> usize
     ensures { result ≡ month_of leap day }
 {
-    let mut month: usize = 11;
-    while 0 < month {
-        if days_before(leap, month) < day {
-            return month;
+    for month in 1..12 {
+        if day <= days_before(leap, month) {
+            return month - 1;
         }
-        month -= 1;
     }
-    0
+    11
 }
 
 // The date of a day of a year.
@@ -69,14 +64,14 @@ fn date_in(year: u32, day: u32) -> Date
     let leap = is_leap(year);
     let month = month_of(leap, day);
     Date {
-        year: year,
+        year,
         month: (month + 1) as u32,
         day: day - days_before(leap, month),
     }
 }
 
 // The date of a word that is not negative, or refusal 11.
-#[tactic(auto, unfolding(calendar_rules::specs::Dates::date_rules, refusal_rules::specs::Rules::chained, refusal_rules::specs::Rules::first, calendar_rules::specs::Dates::date_of))]
+#[tactic(auto, unfolding(calendar_rules::specs::Dates::date_rules, refusal_rules::specs::Rules::first_fault, refusal_rules::specs::Rules::first, refusal_rules::specs::Rules::judge, calendar_rules::specs::Dates::date_of))]
 fn date_of_number(n: u32) -> Result<Date, Refusal>
     ensures { says result ≡ date_of (pos n) }
 {
@@ -94,14 +89,14 @@ fn date_of_number(n: u32) -> Result<Date, Refusal>
 pub fn date_of(word: i32) -> Result<Date, Refusal>
     ensures { says result ≡ date_of word }
 {
-    if 0 <= word {
-        return date_of_number(word as u32);
+    match u32::try_from(word) {
+        Ok(n) => date_of_number(n),
+        Err(_) => Err(Refusal::NoDate),
     }
-    Err(Refusal::NoDate)
 }
 
 // The time of day of a word that is not negative, or refusal 11.
-#[tactic(auto, unfolding(calendar_rules::specs::Times::time_rules, refusal_rules::specs::Rules::chained, refusal_rules::specs::Rules::first, calendar_rules::specs::Times::time_of))]
+#[tactic(auto, unfolding(calendar_rules::specs::Times::time_rules, refusal_rules::specs::Rules::first_fault, refusal_rules::specs::Rules::first, refusal_rules::specs::Rules::judge, calendar_rules::specs::Times::time_of))]
 fn time_of_number(n: u32) -> Result<TimeOfDay, Refusal>
     ensures { says result ≡ time_of (pos n) }
 {
@@ -112,10 +107,10 @@ fn time_of_number(n: u32) -> Result<TimeOfDay, Refusal>
     check(minutes <= 59, Refusal::NoDate)?;
     check(seconds <= 59, Refusal::NoDate)?;
     Ok(TimeOfDay {
-            hours: hours,
-            minutes: minutes,
-            seconds: seconds,
-        })
+        hours,
+        minutes,
+        seconds,
+    })
 }
 
 // The time of day of a word hhmmss. Refused with 11 where the word is negative, its hours are above 23, or its minutes or
@@ -124,8 +119,8 @@ fn time_of_number(n: u32) -> Result<TimeOfDay, Refusal>
 pub fn time_of(word: i32) -> Result<TimeOfDay, Refusal>
     ensures { says result ≡ time_of word }
 {
-    if 0 <= word {
-        return time_of_number(word as u32);
+    match u32::try_from(word) {
+        Ok(n) => time_of_number(n),
+        Err(_) => Err(Refusal::NoDate),
     }
-    Err(Refusal::NoDate)
 }

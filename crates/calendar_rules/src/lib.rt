@@ -1,7 +1,6 @@
 // Dates and times of day, as file headers have them. There is no code here: see specs/ and proofs/.
 #![tactic(auto)]
 
-
 // A date of the Gregorian calendar. Months and days are counted from 1.
 #[derive(Clone, Copy, Debug, PartialEq, Eq)]
 pub struct Date {
@@ -17,4 +16,3 @@ pub struct TimeOfDay {
     pub minutes: u32,
     pub seconds: u32,
 }
-

@@ -6,53 +6,46 @@
 
 ghost use Rattle.std.specs.Prelude.{◌≡◌, ◌+◌, ◌<◌, ◌^◌, ◌≤◌, ◌*◌, length, get_or};
 ghost use Rattle.std.proofs.lemmas.List.Edits.{sets};
-ghost use Rattle.endian_rules.specs.Numbers.{ordered, position, number_at, encode};
-ghost use Rattle.endian_rules.specs.declared.Order.TheVariants.{Big, Little};
+ghost use Rattle.endian_rules.specs.Numbers.{position, digits_at, number_at, encode};
 ghost use Rattle.endian_rules.specs.Words.{signed_at, encode_signed, word_at};
 
 use endian::{signed, unsigned};
 use endian_rules::Order;
 
-// The unsigned number of `width` bytes, at most four, at the byte `at`. The caller must make sure that the bytes are inside the file.
-#[tactic(auto, unfolding(endian_rules::proofs::Numbers::sum_of_powers))]
-pub fn read_number(order: Order, width: usize, file: &[u8], at: usize) -> u32
-    requires { (width ≤ 4) × (at + width ≤ length file.now) }
-    ensures { result ≡ number_at order width file.now at }
+// Where the digit k of a number of `width` bytes at `at` stands. Digit 0 is the least significant.
+fn digit_position(order: Order, width: usize, at: usize, k: usize) -> usize
+    requires { (k < width) × (at + width < 2 ^ 64) }
+    ensures { result ≡ at + position order width k }
 {
-    let end = at + width;
-    let bytes = &file[at..end];
-    // Each byte is multiplied by its power of 256. A byte that is not there, since the number has fewer than four, counts 0.
     match order {
-        // The first byte is the most significant, and the last one is multiplied by 1.
-        Order::Big => byte_from_end(bytes, 3) * 16777216
-            + byte_from_end(bytes, 2) * 65536
-            + byte_from_end(bytes, 1) * 256
-            + byte_from_end(bytes, 0),
-        // The last byte is the most significant, and the first one is multiplied by 1.
-        Order::Little => byte_from_start(bytes, 3) * 16777216
-            + byte_from_start(bytes, 2) * 65536
-            + byte_from_start(bytes, 1) * 256
-            + byte_from_start(bytes, 0),
+        Order::Big => at + (width - 1 - k),
+        Order::Little => at + k,
     }
 }
 
-// The byte k, counted from 0 at the last one, as a number below 256; 0 where there is none. In big order it is the digit k.
-fn byte_from_end(bytes: &[u8], k: usize) -> u32
-    ensures { (result ≡ get_or (ordered Big bytes.now) k 0) × (result < 256) }
+// The digit k of a number of `width` bytes at `at`, as a number below 256; 0 where the number has no such digit.
+fn digit(order: Order, width: usize, file: &[u8], at: usize, k: usize) -> u32
+    requires { at + width ≤ length file.now }
+    ensures { (result ≡ get_or (digits_at order width file.now at) k 0) × (result < 256) }
 {
-    if k < bytes.len() {
-        let i = bytes.len() - 1 - k;
-        bytes[i] as u32
+    if k < width {
+        let i = digit_position(order, width, at, k);
+        file[i] as u32
     } else {
         0
     }
 }
 
-// The byte k, counted from 0 at the first one, as a number below 256; 0 where there is none. In little order it is the digit k.
-fn byte_from_start(bytes: &[u8], k: usize) -> u32
-    ensures { (result ≡ get_or (ordered Little bytes.now) k 0) × (result < 256) }
+// The unsigned number of `width` bytes, at most four, at the byte `at`. The caller must make sure that the bytes are inside the file.
+pub fn read_number(order: Order, width: usize, file: &[u8], at: usize) -> u32
+    requires { (width ≤ 4) × (at + width ≤ length file.now) }
+    ensures { result ≡ number_at order width file.now at }
 {
-    if k < bytes.len() { bytes[k] as u32 } else { 0 }
+    // Each digit is multiplied by its power of 256. A digit that is not there, since the number has fewer than four bytes, counts 0.
+    digit(order, width, file, at, 3) * 16777216
+        + digit(order, width, file, at, 2) * 65536
+        + digit(order, width, file, at, 1) * 256
+        + digit(order, width, file, at, 0)
 }
 
 // The signed word at the byte `at`. The caller must make sure that its four bytes are inside the file.
@@ -75,29 +68,16 @@ pub fn read_word(order: Order, file: &[u8], k: usize) -> u32
     read_number(order, 4, file, 4 * k)
 }
 
-// Where the digit k of a number of `width` bytes at `at` stands. Digit 0 is the least significant.
-fn digit_position(order: Order, width: usize, at: usize, k: usize) -> usize
-    requires { (k < width) × (at + width < 2 ^ 64) }
-    ensures { result ≡ at + position order width k }
-{
-    match order {
-        Order::Big => at + (width - 1 - k),
-        Order::Little => at + k,
-    }
-}
-
 // Writes the low `width` bytes of n at the byte `at`. The caller must make sure that the bytes are inside the file. No other byte changes.
 pub fn write_number(order: Order, width: usize, file: &mut [u8], at: usize, n: u32)
     requires { at + width ≤ length file.old }
     ensures { file.new ≡ sets file.old at (encode order width n) }
 {
-    let mut k = 0;
     let mut left = n;
-    while k < width {
+    for k in 0..width {
         let i = digit_position(order, width, at, k);
         file[i] = (left % 256) as u8;
-        left = left / 256;
-        k += 1;
+        left /= 256;
     }
 }
 

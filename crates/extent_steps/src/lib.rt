@@ -44,14 +44,12 @@ pub fn highest_end(file: &[u8], order: Order) -> usize
 {
     let n = read_word(order, file, 10) as usize;
     let mut high = 12 + n;
-    let mut k = 0;
-    while k < n {
+    for k in 0..n {
         let grid = slot_extent(file, order, k);
         let end = grid.start + grid.length;
         if high < end {
             high = end;
         }
-        k += 1;
     }
     high
 }
@@ -64,14 +62,12 @@ fn past_grid(file: &[u8], order: Order, p: usize) -> usize
 {
     let n = read_word(order, file, 10) as usize;
     let mut past = p;
-    let mut k = 0;
-    while k < n {
+    for k in 0..n {
         let grid = slot_extent(file, order, k);
         let end = grid.start + grid.length;
         if and(grid.start <= p, p < end) {
             past = end;
         }
-        k += 1;
     }
     past
 }
@@ -84,14 +80,12 @@ fn next_grid(file: &[u8], order: Order, whole: usize, p: usize) -> usize
 {
     let n = read_word(order, file, 10) as usize;
     let mut next = whole;
-    let mut k = 0;
-    while k < n {
+    for k in 0..n {
         let grid = slot_extent(file, order, k);
         let ahead = and(p <= grid.start, grid.start < next);
         if and(0 < grid.length, ahead) {
             next = grid.start;
         }
-        k += 1;
     }
     next
 }
@@ -137,7 +131,7 @@ pub fn run_after(file: &[u8], order: Order, e: Extent) -> Extent
     let start = lowest_free(file, order, e.start + e.length);
     let end = next_grid(file, order, whole, start);
     Extent {
-        start: start,
+        start,
         length: end - start,
     }
 }
@@ -156,10 +150,7 @@ pub fn survey_free(file: &[u8], order: Order) -> Survey
         e = run_after(file, order, e);
         count += 1;
     }
-    Survey {
-        count: count,
-        last: last,
-    }
+    Survey { count, last }
 }
 
 // Whether so many words fit into an extent, and end by 2,147,483,647.

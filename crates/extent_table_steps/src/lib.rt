@@ -19,22 +19,10 @@ pub fn fill<'t, 'f>(table: &'t mut [Extent], file: &'f [u8], order: Order, count
     ensures { table.new ≡ runs_over order file.now count table.old }
 {
     let mut e = directory_extent(file, order);
-    let mut i: usize = 0;
-    while i < count {
+    for place in table[..count].iter_mut() {
         e = run_after(file, order, e);
-        table[i] = e;
-        i = i + 1;
+        *place = e;
     }
-}
-
-// So many places, or as many as a table of `size` places has where that is less.
-fn lesser(count: usize, size: usize) -> usize
-    ensures { result ≡ lesser count size }
-{
-    if count <= size {
-        return count;
-    }
-    size
 }
 
 // The first of a table's first `count` extents into which `need` words fit so that they end by 2,147,483,647; no words where there is none. All are searched where
@@ -43,15 +31,13 @@ fn lesser(count: usize, size: usize) -> usize
 pub fn first_fit(table: &[Extent], count: usize, need: usize) -> Extent
     ensures { result ≡ searched table.now need (lesser count (length table.now)) }
 {
-    let places = lesser(count, table.len());
+    let places = &table[..count.min(table.len())];
     let mut found = Extent {
         start: 0,
         length: 0,
     };
-    let mut i: usize = 0;
-    while i < places {
-        found = first_fitting(need, found, table[i]);
-        i = i + 1;
+    for extent in places {
+        found = first_fitting(need, found, *extent);
     }
     found
 }

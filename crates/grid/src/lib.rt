@@ -46,7 +46,7 @@ fn shares_word(
 }
 
 // What the checks of slot k say. Those of the slots before it must have passed.
-#[tactic(auto, unfolding(refusal_rules::specs::Rules::first_fault, refusal_rules::specs::Rules::first, grid_rules::specs::Rules::overlap_rule))]
+#[tactic(auto, using(refusal_rules::proofs::Tables::joined_faults), unfolding(refusal_rules::specs::Rules::first_fault, refusal_rules::specs::Rules::first, grid_rules::specs::Rules::slot_rules, grid_rules::specs::Rules::overlap_rule))]
 fn slot_verdict(file: &[u8], order: Order, n: usize, next: usize, k: usize) -> Result<(), Refusal>
     requires { GridRoom (length file.now) n next × ((k < n) × (first_fault (slots_rules (word_at order file.now) n next k) ≡ Pass)) }
     ensures { verdict_of result ≡ first_fault (slot_rules (word_at order file.now) n next k) }
@@ -76,7 +76,7 @@ fn slots_verdict(file: &[u8], order: Order, n: usize, next: usize) -> Result<(),
 
 // What the checks of a whole GRID file say, before a grid of it is asked for: 1 to 5 with document 01's places. The first fault of the lowest
 // slot that has one comes first.
-#[tactic(auto, unfolding(refusal_rules::specs::Rules::first))]
+#[tactic(auto, using(refusal_rules::proofs::Tables::joined_faults), unfolding(grid_rules::specs::Rules::grid_file_rules, refusal_rules::specs::Rules::first))]
 pub fn file_verdict(file: &[u8], order: Order) -> Result<(), Refusal>
     ensures { verdict_of result ≡ first_fault (grid_file_rules (length file.now) (word_at order file.now)) }
 {
@@ -88,7 +88,7 @@ pub fn file_verdict(file: &[u8], order: Order) -> Result<(), Refusal>
 
 // Opens the grid of a number, counted from 1, in a byte order. Refused by the first fault of the whole file, then with 7 where there is no such
 // grid, then with 6 where its slot is empty.
-#[tactic(auto, unfolding(grid_rules::specs::Opening::open_grid))]
+#[tactic(auto, using(refusal_rules::proofs::Tables::joined_faults), unfolding(grid_rules::specs::Opening::open_grid, grid_rules::specs::Opening::open_grid_words, grid_rules::specs::Opening::open_wanted, refusal_rules::specs::Rules::first))]
 pub fn open(file: &[u8], order: Order, number: u32) -> Result<GridLayout, Refusal>
     ensures { says result ≡ open_grid order file.now number }
 {

@@ -74,13 +74,9 @@ fn append_blocks(text: Text, blocks: BlockList) -> Text
     requires { (blocks.count ≤ 6) × (length blocks.entries ≡ 6) }
     ensures { result ≡ append_bytes text (block_lines (take blocks.count blocks.entries)) }
 {
-    let count = blocks.count;
-    let entries = blocks.entries;
     let mut t = text;
-    let mut i = 0;
-    while i < count {
-        t = append_block(t, entries[i]);
-        i += 1;
+    for entry in &blocks.entries[..blocks.count] {
+        t = append_block(t, *entry);
     }
     t
 }
@@ -108,26 +104,12 @@ fn text_of(file: &[u8]) -> Text
             let line = append_two(
                 empty,
                 b"REFUSED ",
-                refusal.number as u64,
+                refusal.number() as u64,
                 b" at ",
-                refusal.place,
+                refusal.place(),
             );
             append_bytes(line, b"\n")
         }
-    }
-}
-
-// Fills an output with the first bytes of a text.
-#[tactic(auto, unfolding(lists::specs::Lists::list_of))]
-fn fill_text(text: Text, out: &mut [u8])
-    requires { length out.old ≤ 512 }
-    ensures { out.new ≡ list_of (λ i. get_or text.bytes i 0) (length out.old) }
-{
-    let bytes = text.bytes;
-    let mut i = 0;
-    while i < out.len() {
-        out[i] = bytes[i];
-        i += 1;
     }
 }
 
@@ -142,6 +124,7 @@ pub fn list_text(file: &[u8], out: &mut [u8]) -> Result<usize, Refusal>
     if out.len() < count {
         return Err(Refusal::ShortOutput);
     }
-    fill_text(text, &mut out[..count]);
+    let listing = &text.bytes[..count];
+    out[..count].copy_from_slice(listing);
     Ok(count)
 }

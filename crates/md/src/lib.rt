@@ -8,33 +8,37 @@ ghost use Rattle.md_rules.specs.Rules.{md_count, md_equal, md_count_rules, md_su
 ghost use Rattle.md_rules.specs.Opening.{md_layout_of, open_md, same_md};
 ghost use Rattle.refusal_rules.specs.Answers.{says, verdict_of};
 
-use endian::{at_least, order_number};
+use endian::at_least;
 use endian_rules::Order;
 use endian_steps::read_word;
 use md_rules::MdLayout;
-use refusal::{and, check, equal_and, within};
+use refusal::{check, within};
 use refusal_rules::Refusal;
 
-// One rule more, after a verdict: that word k is a count from `low` to `high`.
+// Refusal 3 at word k, unless the word is from `low` to `high`.
 fn count(file: &[u8], order: Order, k: usize, low: u32, high: u32) -> Result<(), Refusal>
     requires { 4 * k + 4 ≤ length file.now }
-    ensures { verdict_of result ≡ (judge (md_count (word_at order file.now) k low high)) }
+    ensures { verdict_of result ≡ judge (md_count (word_at order file.now) k low high) }
 {
-    let holds = within(low, high, read_word(order, file, k));
-    check(holds, Refusal::CountOutOfBounds(k))
+    check(
+        within(low, high, read_word(order, file, k)),
+        Refusal::CountOutOfBounds(k),
+    )
 }
 
-// One rule more, after a verdict: that word k is n.
+// Refusal 4 at word k, unless the word is n.
 fn equal(file: &[u8], order: Order, k: usize, n: usize) -> Result<(), Refusal>
     requires { 4 * k + 4 ≤ length file.now }
-    ensures { verdict_of result ≡ (judge (md_equal (word_at order file.now) k n)) }
+    ensures { verdict_of result ≡ judge (md_equal (word_at order file.now) k n) }
 {
-    let holds = read_word(order, file, k) as usize == n;
-    check(holds, Refusal::RuleBroken(k))
+    check(
+        read_word(order, file, k) as usize == n,
+        Refusal::RuleBroken(k),
+    )
 }
 
-// What the rules of the counts say. The verdict up to the rule of a word is named after it.
-#[tactic(auto, unfolding(md_rules::specs::Rules::md_count_rules, refusal_rules::specs::Rules::chained))]
+// What the rules of the counts say.
+#[tactic(auto, unfolding(md_rules::specs::Rules::md_count_rules, refusal_rules::specs::Rules::first_fault, refusal_rules::specs::Rules::first))]
 fn count_verdict(file: &[u8], order: Order) -> Result<(), Refusal>
     requires { 16384 ≤ length file.now }
     ensures { verdict_of result ≡ first_fault (md_count_rules (word_at order file.now)) }
@@ -48,7 +52,7 @@ fn count_verdict(file: &[u8], order: Order) -> Result<(), Refusal>
 }
 
 // What the rules of the words that follow from the counts say, where the counts are within their bounds.
-#[tactic(auto, unfolding(md_rules::specs::Rules::md_sum_rules, refusal_rules::specs::Rules::chained))]
+#[tactic(auto, unfolding(md_rules::specs::Rules::md_sum_rules, refusal_rules::specs::Rules::first_fault, refusal_rules::specs::Rules::first))]
 fn sum_verdict(file: &[u8], order: Order) -> Result<(), Refusal>
     requires { (16384 ≤ length file.now) × (first_fault (md_count_rules (word_at order file.now)) ≡ Pass) }
     ensures { verdict_of result ≡ first_fault (md_sum_rules (word_at order file.now)) }
@@ -68,11 +72,11 @@ fn sum_verdict(file: &[u8], order: Order) -> Result<(), Refusal>
     equal(file, order, 29, column_start + columns * column_keys)
 }
 
-// What the rules of the words that are the same in every file say, after a verdict.
-#[tactic(auto, unfolding(md_rules::specs::Rules::md_fixed_rules, refusal_rules::specs::Rules::chained))]
+// What the rules of the words that are the same in every file say.
+#[tactic(auto, unfolding(md_rules::specs::Rules::md_fixed_rules, refusal_rules::specs::Rules::first_fault, refusal_rules::specs::Rules::first))]
 fn fixed_verdict(file: &[u8], order: Order) -> Result<(), Refusal>
     requires { 16384 ≤ length file.now }
-    ensures { verdict_of result ≡ (first_fault (md_fixed_rules (word_at order file.now))) }
+    ensures { verdict_of result ≡ first_fault (md_fixed_rules (word_at order file.now)) }
 {
     equal(file, order, 31, 64)?;
     equal(file, order, 32, 464)?;
@@ -80,11 +84,11 @@ fn fixed_verdict(file: &[u8], order: Order) -> Result<(), Refusal>
     equal(file, order, 34, 1264)
 }
 
-// What the rules of word 30 say, after a verdict, where the counts are within their bounds.
-#[tactic(auto, unfolding(md_rules::specs::Rules::md_end_rules, refusal_rules::specs::Rules::chained))]
+// What the rules of word 30 say, where the counts are within their bounds.
+#[tactic(auto, unfolding(md_rules::specs::Rules::md_end_rules, refusal_rules::specs::Rules::first_fault, refusal_rules::specs::Rules::first))]
 fn end_verdict(file: &[u8], order: Order) -> Result<(), Refusal>
     requires { (16384 ≤ length file.now) × (first_fault (md_count_rules (word_at order file.now)) ≡ Pass) }
-    ensures { verdict_of result ≡ (first_fault (md_end_rules (length file.now) (word_at order file.now))) }
+    ensures { verdict_of result ≡ first_fault (md_end_rules (length file.now) (word_at order file.now)) }
 {
     let rows = read_word(order, file, 3) as usize;
     let columns = read_word(order, file, 4) as usize;
@@ -92,19 +96,18 @@ fn end_verdict(file: &[u8], order: Order) -> Result<(), Refusal>
     let data_start = read_word(order, file, 29) as usize;
     let end = read_word(order, file, 30);
     let data_end = data_start + rows * columns * data_keys;
-    let past = at_least(data_end, end);
-    let inside = end as usize <= file.len() / 4;
-    check(check(past, Refusal::RuleBroken(30)), inside, MISPLACED, 30)
+    check(at_least(data_end, end), Refusal::RuleBroken(30))?;
+    check(end as usize <= file.len() / 4, Refusal::Misplaced(30))
 }
 
-// What all rules of opening say of a file that has at least 16,384 bytes.
-#[tactic(auto, unfolding(refusal_rules::specs::Rules::first))]
+// What all rules of opening say of a file.
+#[tactic(auto, using(refusal_rules::proofs::Tables::joined_faults), unfolding(md_rules::specs::Rules::md_rules, refusal_rules::specs::Rules::first_fault, refusal_rules::specs::Rules::first, refusal_rules::specs::Rules::judge))]
 fn md_verdict(file: &[u8], order: Order) -> Result<(), Refusal>
-    requires { 16384 ≤ length file.now }
     ensures { verdict_of result ≡ first_fault (md_rules (length file.now) (word_at order file.now)) }
 {
+    check(16384 <= file.len(), Refusal::ShortFile)?;
     count_verdict(file, order)?;
-    let sums = sum_verdict(file, order);
+    sum_verdict(file, order)?;
     fixed_verdict(file, order)?;
     end_verdict(file, order)
 }
@@ -116,7 +119,7 @@ fn layout_of_words(file: &[u8], order: Order) -> MdLayout
     ensures { result ≡ md_layout_of order (length file.now) (word_at order file.now) }
 {
     MdLayout {
-        order: order,
+        order,
         length: file.len(),
         rows: read_word(order, file, 3),
         columns: read_word(order, file, 4),
@@ -135,28 +138,13 @@ fn layout_of_words(file: &[u8], order: Order) -> MdLayout
 pub fn open(file: &[u8], order: Order) -> Result<MdLayout, Refusal>
     ensures { says result ≡ open_md order file.now }
 {
-    if file.len() < 16384 {
-        return Err(Refusal::ShortFile);
-    }
     md_verdict(file, order)?;
     Ok(layout_of_words(file, order))
 }
 
-// Whether two MD layouts are the same in every field. What has been compared up to a field is named after it.
-#[tactic(auto, unfolding(md_rules::specs::Opening::same_md, refusal_rules::specs::Tests::same_numbers))]
+// Whether two MD layouts are the same in every field.
 pub fn same_md(a: MdLayout, b: MdLayout) -> bool
     ensures { result ≡ same_md a b }
 {
-    let data_start = equal_and(a.data_start, b.data_start, true);
-    let column_start = equal_and(a.column_start, b.column_start, data_start);
-    let data_keys = equal_and(a.data_keys, b.data_keys, column_start);
-    let column_keys = equal_and(a.column_keys, b.column_keys, data_keys);
-    let row_keys = equal_and(a.row_keys, b.row_keys, column_keys);
-    let keys = equal_and(a.keys, b.keys, row_keys);
-    let columns = equal_and(a.columns, b.columns, keys);
-    let rows = equal_and(a.rows, b.rows, columns);
-    let length = and(a.length == b.length, rows);
-    let order_a = a.order;
-    let order_b = b.order;
-    equal_and(order_number(order_a), order_number(order_b), length)
+    a == b
 }

@@ -43,7 +43,7 @@ fn part_word(layout: MdLayout, row: u32, column: u32) -> usize
 }
 
 // What the rules of the part that coordinates name say: 7 where there is no such row or column.
-#[tactic(auto, unfolding(md_rules::specs::Places::part_rules, refusal_rules::specs::Rules::chained))]
+#[tactic(auto, unfolding(md_rules::specs::Places::part_rules, refusal_rules::specs::Rules::first_fault, refusal_rules::specs::Rules::first))]
 fn part_verdict(layout: MdLayout, row: u32, column: u32) -> Result<(), Refusal>
     ensures { verdict_of result ≡ first_fault (part_rules layout row column) }
 {
@@ -79,11 +79,11 @@ fn fields_of(layout: MdLayout, row: u32, column: u32) -> u32
 }
 
 // What the rules of a field of the part that coordinates name say: 7 where there is no such row, column or field.
-#[tactic(auto, unfolding(md_rules::specs::Places::field_rules, refusal_rules::specs::Rules::chained))]
+#[tactic(auto, using(refusal_rules::proofs::Tables::joined_faults), unfolding(md_rules::specs::Places::field_rules, refusal_rules::specs::Rules::first_fault, refusal_rules::specs::Rules::first))]
 fn field_verdict(layout: MdLayout, row: u32, column: u32, position: u32) -> Result<(), Refusal>
     ensures { verdict_of result ≡ first_fault (field_rules layout row column position) }
 {
-    let part = part_verdict(layout, row, column);
+    part_verdict(layout, row, column)?;
     let fields = fields_of(layout, row, column);
     check(within(1, fields, position), Refusal::NoSuch)
 }
@@ -104,7 +104,7 @@ pub fn field_place(layout: MdLayout, row: u32, column: u32, position: u32) -> Re
 {
     field_verdict(layout, row, column, position)?;
     Ok(Place {
-            address: 4 * field_word(layout, row, column, position),
-            width: 4,
-        })
+        address: 4 * field_word(layout, row, column, position),
+        width: 4,
+    })
 }

@@ -1,13 +1,10 @@
 -- `extent_steps::highest_end` meets its contract: the highest end so far is that of the slots before the one that the loop is at.
 -- Assumes nothing.
 use mathlib.Core.Path.{◌≡◌}
-use Prim.Native.Nat.{◌+◌, ◌-◌, ◌≤◌}
+use Prim.Native.Nat.{◌+◌}
 use Rattle.endian_rules.specs.Words.{word_at}
 use Rattle.extent_rules.specs.Stretches.{highest_end}
 use Rattle.extent_steps.proofs.highest_end.Given as goal
 
 abbrev pub invariant-loop-k : goal.invariant-loop-k
-invariant-loop-k l = (l.k ≤ l.n) × ((l.n ≡ word_at l.order l.file 10) × (l.high ≡ highest_end (word_at l.order l.file) (12 + l.n) l.k))
-
-abbrev pub decreases-loop-k : goal.decreases-loop-k
-decreases-loop-k l = l.n - l.k
+invariant-loop-k l = l.high ≡ highest_end (word_at l.order l.file) (12 + l.n) l.k

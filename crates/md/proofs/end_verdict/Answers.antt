@@ -1,10 +1,7 @@
--- `md::end_verdict` meets its contract: the chain of rules is the table, and counts within their bounds have small products.
+-- `md::end_verdict` meets its contract: counts within their bounds have small products.
 -- Assumes nothing.
 use Prim.Native.Nat.{◌*◌, ◌≤◌}
 use native.Mathlib.Omega.{arith}
-use Rattle.refusal_rules.specs.Rules.{chained}
-use Rattle.refusal_rules.proofs.Tables.{by_chain}
-use Rattle.md_rules.specs.Rules.{md_end_rules}
 use Rattle.md_rules.proofs.Verdicts.{pass_counted, data_words}
 use Rattle.md.proofs.end_verdict.Goals as goal
 
@@ -20,20 +17,3 @@ overflow_mul-data_end-2 c = omega (arith, data-small c)
 
 pub overflow_add-data_end : goal.overflow_add-data_end
 overflow_add-data_end c = omega (arith, data-small c, c.read_word-data_start.type_inv)
-
-pub returns : goal.returns
-unfolding md_end_rules chained
-returns c =
-    by_chain
-    _
-    _
-    (rw (
-      c.check-2.ensures,
-      c.check.ensures,
-      c.at_least-past.ensures,
-      c.read_word-end.ensures,
-      c.read_word-data_start.ensures,
-      c.read_word-data_keys.ensures,
-      c.read_word-columns.ensures,
-      c.read_word-rows.ensures,
-    ))
