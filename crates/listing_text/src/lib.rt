@@ -1,8 +1,7 @@
 // The text of the listing of an AREA file, in bytes, as the listing program prints it.
 #![tactic(auto)]
 
-ghost use Rattle.std.specs.Prelude.{◌≡◌, ◌≤◌, length, take, get_or};
-ghost use Rattle.lists.specs.Lists.{list_of};
+ghost use Rattle.std.specs.Prelude.{◌≡◌, ◌≤◌, length, take};
 ghost use Rattle.refusal_rules.specs.Answers.{gives, says};
 ghost use Rattle.copy_rules.specs.Runs.{copied};
 ghost use Rattle.listing_rules.specs.Page.{order_line, layout_lines, block_name, block_line, block_lines, listing_text};
