@@ -95,18 +95,11 @@ fn text_of(file: &[u8]) -> Text
         return append_bytes(empty, b"TOO LONG\n");
     }
     let listing = list_area(file);
-    let opening = listing.opening;
-    let blocks = listing.blocks;
-    match opening {
-        Ok(layout) => append_blocks(append_layout(empty, layout), blocks),
+    match listing.opening {
+        Ok(layout) => append_blocks(append_layout(empty, layout), listing.blocks),
         Err(refusal) => {
-            let line = append_two(
-                empty,
-                b"REFUSED ",
-                refusal.number() as u64,
-                b" at ",
-                refusal.place(),
-            );
+            let number = refusal.number() as u64;
+            let line = append_two(empty, b"REFUSED ", number, b" at ", refusal.place());
             append_bytes(line, b"\n")
         }
     }
