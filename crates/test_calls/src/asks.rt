@@ -82,7 +82,13 @@ fn ask_key(rt: &impl Print, file: &[u8], layout: Layout, number: u32, n: u32) ->
 }
 
 // Asks a call that reads, and writes what came back.
-pub fn ask(rt: &impl Print, file: &[u8], layout: Layout, call: ReadCall, n: Numbers) -> io::Result<()> {
+pub fn ask(
+    rt: &impl Print,
+    file: &[u8],
+    layout: Layout,
+    call: ReadCall,
+    n: Numbers,
+) -> io::Result<()> {
     match call {
         ReadCall::Sample => say(
             rt,

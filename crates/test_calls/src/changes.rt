@@ -38,12 +38,7 @@ pub fn store_value(
 }
 
 // Opens a file of a kind.
-pub fn open_kind(
-    file: &[u8],
-    kind: Kind,
-    order: Order,
-    number: u32,
-) -> Result<Layout, Refusal> {
+pub fn open_kind(file: &[u8], kind: Kind, order: Order, number: u32) -> Result<Layout, Refusal> {
     match kind {
         Kind::Area => open_area(file),
         Kind::Grid => open_grid(file, order, number),

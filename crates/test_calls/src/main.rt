@@ -16,6 +16,7 @@ use asks::ask;
 use changes::{LARGEST, change, compare, make, open_kind, restore, store_value};
 use endian_rules::Order;
 use layout_rules::Layout;
+use std::alloc::Global;
 use std::io;
 use std::io::Read;
 use words::{Call, Kind, call_of, numbers_in};
@@ -80,12 +81,12 @@ impl Subject {
 }
 
 // Runs the lines of a script with files in a byte order. Before the first line there is an AREA file of no bytes, and no layout.
-fn run(rt: &(impl Alloc + Print), script: &str, order: Order) -> io::Result<()> {
+fn run(rt: &impl Print, alloc: Global, script: &str, order: Order) -> io::Result<()> {
     let mut subject = Subject {
         kind: Kind::Area,
-        file: Vec::new(rt.alloc()),
+        file: Vec::new(alloc),
         layout: None,
-        copy: Vec::new(rt.alloc()),
+        copy: Vec::new(alloc),
     };
     for line in script.lines() {
         print!(rt; "{line}")?;
@@ -103,9 +104,9 @@ fn main(rt: HostRuntime) -> io::Result<()> {
     rt.reader().take(32768).read_to_string(&mut text)?;
     if let Some((_, script)) = text.split_once('\n') {
         println!(rt; "BIG ORDER")?;
-        run(&rt, script, Order::Big)?;
+        run(&rt, rt.alloc(), script, Order::Big)?;
         println!(rt; "LITTLE ORDER")?;
-        run(&rt, script, Order::Little)?;
+        run(&rt, rt.alloc(), script, Order::Little)?;
     }
     Ok(())
 }
