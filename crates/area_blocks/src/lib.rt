@@ -20,13 +20,11 @@ use span_steps::hand_back;
 fn nearer_start(x: u32, s: u32, n: usize) -> usize
     ensures { result ≡ nearer_start x s n }
 {
-    let start = s as usize;
-    if x < s {
-        if start < n {
-            return start;
-        }
+    if x < s && (s as usize) < n {
+        s as usize
+    } else {
+        n
     }
-    n
 }
 
 // The byte after a block that starts at x: the next greater start, or else the end of the file.
@@ -56,21 +54,8 @@ fn optional_span(l: AreaLayout, x: u32) -> Result<Span, Refusal>
     })
 }
 
-// The span of DATA, which has the bytes of its lines.
-#[tactic(auto, unfolding(area_part_rules::specs::Blocks::block_of, area_part_rules::specs::Blocks::block_rules, refusal_rules::specs::Rules::first_fault, refusal_rules::specs::Rules::first, refusal_rules::specs::Rules::judge))]
-fn data_span(l: AreaLayout) -> Result<Span, Refusal>
-    requires { AreaFits l }
-    ensures { says result ≡ block_of l Block.Data }
-{
-    let length = data_length(l)?;
-    Ok(Span {
-            start: l.data_start as usize,
-            length: length,
-        })
-}
-
 // The span of AUDIT, which is straight after DATA, and absent where there are no comment cards.
-#[tactic(auto, unfolding(area_part_rules::specs::Blocks::block_of, area_part_rules::specs::Blocks::block_rules, refusal_rules::specs::Rules::first_fault, refusal_rules::specs::Rules::first, refusal_rules::specs::Rules::judge))]
+#[tactic(auto, using(area_rules::proofs::Places::data_length), unfolding(area_part_rules::specs::Blocks::block_of, area_part_rules::specs::Blocks::block_rules, refusal_rules::specs::Rules::first_fault, refusal_rules::specs::Rules::first, refusal_rules::specs::Rules::judge))]
 fn audit_span(l: AreaLayout) -> Result<Span, Refusal>
     requires { AreaFits l }
     ensures { says result ≡ block_of l Block.Audit }
@@ -80,13 +65,13 @@ fn audit_span(l: AreaLayout) -> Result<Span, Refusal>
     }
     let data = data_length(l)?;
     Ok(Span {
-            start: l.data_start as usize + data,
-            length: 80 * l.cards as usize,
-        })
+        start: l.data_start as usize + data,
+        length: 80 * l.cards as usize,
+    })
 }
 
 // The span of a block of an accepted file.
-#[tactic(auto, unfolding(area_part_rules::specs::Blocks::block_of, area_part_rules::specs::Blocks::block_rules, refusal_rules::specs::Rules::first_fault, refusal_rules::specs::Rules::first, refusal_rules::specs::Rules::judge, area_part_rules::specs::Blocks::optional_block_of))]
+#[tactic(auto, using(area_rules::proofs::Places::data_length), unfolding(area_part_rules::specs::Blocks::block_of, area_part_rules::specs::Blocks::block_rules, refusal_rules::specs::Rules::first_fault, refusal_rules::specs::Rules::first, refusal_rules::specs::Rules::judge, area_part_rules::specs::Blocks::optional_block_of))]
 fn span_of(l: AreaLayout, block: Block) -> Result<Span, Refusal>
     requires { AreaFits l }
     ensures { says result ≡ block_of l block }
@@ -99,7 +84,13 @@ fn span_of(l: AreaLayout, block: Block) -> Result<Span, Refusal>
         Block::Nav => optional_span(l, l.nav),
         Block::Cal => optional_span(l, l.cal),
         Block::Aux => optional_span(l, l.aux),
-        Block::Data => data_span(l),
+        Block::Data => {
+            let length = data_length(l)?;
+            Ok(Span {
+                start: l.data_start as usize,
+                length: length,
+            })
+        }
         Block::Audit => audit_span(l),
     }
 }

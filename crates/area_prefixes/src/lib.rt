@@ -1,7 +1,7 @@
 // The regions of a line prefix of an AREA file, the padding among them: where each lies, and its bytes handed back.
 #![tactic(auto)]
 
-ghost use Rattle.std.specs.Prelude.{◌≡◌, ◌≤◌};
+ghost use Rattle.std.specs.Prelude.{◌≡◌, ◌≤◌, sum, take};
 ghost use Rattle.lists.specs.Segments.{total, segment_offset};
 ghost use Rattle.area_rules.specs.Blocks.{region_lengths, region_index, region_length, region_offset};
 ghost use Rattle.area_rules.specs.Samples.{AreaFits};
@@ -15,9 +15,9 @@ use fresh_layout::area_of;
 use layout_rules::Layout;
 use prefix_lengths::validity_length;
 use refusal::check;
+use refusal_rules::Refusal;
 use span_rules::Span;
 use span_steps::hand_back;
-use refusal_rules::Refusal;
 
 // The lengths of the regions of a line prefix, in their order.
 fn region_lengths(l: AreaLayout) -> [usize; 5]
@@ -47,19 +47,14 @@ fn region_index(region: Region) -> usize
 
 // How many bytes the first k regions of a line prefix have together, by the lengths of all its regions.
 fn offset_of(lengths: &[usize; 5], k: usize) -> usize
-    requires { (k ≤ 4) × (total lengths.now ≤ 4294967295) }
-    ensures { result ≡ segment_offset lengths.now k }
+    requires { (k ≤ 4) × (sum (take k lengths.now) ≤ 4294967295) }
+    ensures { result ≡ sum (take k lengths.now) }
 {
-    let mut offset: usize = 0;
-    let mut i: usize = 0;
-    while i < k {
-        offset += lengths[i];
-        i += 1;
-    }
-    offset
+    lengths[..k].iter().sum()
 }
 
 // Where a region lies in a line prefix of an accepted file: how many bytes there are before it, and how many it has.
+#[tactic(auto, using(crate::proofs::Sums::sum_total))]
 fn region_in_prefix(l: AreaLayout, region: Region) -> Span
     requires { AreaFits l }
     ensures { result ≡ span (region_offset l region) (region_length l region) }
@@ -73,21 +68,18 @@ fn region_in_prefix(l: AreaLayout, region: Region) -> Span
 }
 
 // The span of a region of a line's prefix in an accepted file.
-#[tactic(auto, unfolding(area_part_rules::specs::Regions::region_rules, refusal_rules::specs::Rules::chained, area_part_rules::specs::Regions::region_of))]
+#[tactic(auto, using(area_rules::proofs::Bounds::area_bounded_lem), unfolding(area_rules::specs::Places::line_start_of, area_rules::specs::Places::line_rules, area_part_rules::specs::Regions::region_rules, refusal_rules::specs::Rules::first_fault, refusal_rules::specs::Rules::first, refusal_rules::specs::Rules::judge, area_part_rules::specs::Regions::region_of))]
 fn region_of(l: AreaLayout, line: u32, region: Region) -> Result<Span, Refusal>
     requires { AreaFits l }
     ensures { says result ≡ region_of l line region }
 {
+    let start = line_start(l, line)?;
     let part = region_in_prefix(l, region);
-    check(line < l.lines, Refusal::NoSuch)?;
     check(part.length != 0, Refusal::Absent)?;
-    match line_start(l, line) {
-            Err(refusal) => Err(refusal),
-            Ok(start) => Ok(Span {
-                start: start + part.start,
-                length: part.length,
-            }),
-        }
+    Ok(Span {
+        start: start + part.start,
+        length: part.length,
+    })
 }
 
 // Where a region of the prefix of a line, counted from 0, of an AREA file lies, or its padding: start and length in bytes. Refused with 9 where the layout is stale, then with

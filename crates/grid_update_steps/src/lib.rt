@@ -1,7 +1,7 @@
-// Deleting and adding a grid, as far as the file goes. What a table of free stretches asks is answered beside: how many of its places are to be filled.
+// Deleting and adding a grid, as far as the file goes. The answer tells how many free stretches the file has then, for the table that they are put into.
 #![tactic(auto)]
 
-ghost use Rattle.std.specs.Prelude.{◌≡◌, map, ◌<◌, ◌+◌, ◌≤◌, ◌*◌, length};
+ghost use Rattle.std.specs.Prelude.{◌≡◌, map, ◌<◌, ◌+◌, ◌≤◌, ◌*◌, length, Ok};
 ghost use Rattle.std.proofs.lemmas.List.Edits.{sets};
 ghost use Rattle.std.specs.Int.{w32};
 ghost use Rattle.std.proofs.Common.{of_z};
@@ -11,8 +11,8 @@ ghost use Rattle.refusal_rules.specs.Rules.{first_fault};
 ghost use Rattle.extent_rules.specs.Stretches.{first_word, highest_end};
 ghost use Rattle.extent_rules.specs.Steps.{SlotsInside, GridAccepted};
 ghost use Rattle.grid_update_rules.specs.Updates.{next_free_set, delete_rules, lowest_empty, add_rules, grid_bytes};
-ghost use Rattle.grid_update_rules.specs.Steps.{stretch_says, delete_step, refused_plan, add_plan, addition_says, add_step, Ready};
-ghost use Rattle.refusal_rules.specs.Answers.{verdict_of};
+ghost use Rattle.grid_update_rules.specs.Steps.{stretch_says, delete_step, add_plan, addition_says, add_step, Ready};
+ghost use Rattle.refusal_rules.specs.Answers.{says, verdict_of};
 
 use endian_rules::Order;
 use endian_steps::{read_word, write_number, write_signed};
@@ -20,7 +20,7 @@ use extent_rules::Extent;
 use extent_steps::{first_fitting, has_room, highest_end, survey_free};
 use grid::file_verdict;
 use grid_rules::EMPTY_SLOT;
-use grid_update_rules::{AddPlan, Added, AdditionStep, StretchStep};
+use grid_update_rules::{AddPlan, Added};
 use refusal::{check, within};
 use refusal_rules::Refusal;
 
@@ -37,7 +37,7 @@ fn set_next_free(file: &mut [u8], order: Order)
 }
 
 // What the rules of deleting a grid say.
-#[tactic(auto, unfolding(refusal_rules::specs::Rules::chained))]
+#[tactic(auto, using(refusal_rules::proofs::Tables::joined_faults), unfolding(refusal_rules::specs::Rules::first_fault, refusal_rules::specs::Rules::first, grid_rules::specs::Rules::wanted_rules, grid_update_rules::specs::Updates::delete_rules))]
 fn delete_verdict(file: &[u8], order: Order, number: u32, size: usize) -> Result<(), Refusal>
     ensures { verdict_of result ≡ first_fault (delete_rules order file.now number size) }
 {
@@ -49,27 +49,15 @@ fn delete_verdict(file: &[u8], order: Order, number: u32, size: usize) -> Result
     check(!(offset == EMPTY_SLOT), Refusal::Absent)
 }
 
-// Deletes the grid of a number, with a table of `size` pairs. Refused as `grid_updates::delete`.
+// Deletes the grid of a number, with a table of `size` pairs, and answers how many free stretches the file has now. Refused as `grid_updates::delete`.
 #[tactic(auto, unfolding(grid_update_rules::specs::Updates::set_word, grid_update_rules::specs::Updates::without_grid, grid_update_rules::specs::Steps::delete_step))]
-pub fn delete_in(file: &mut [u8], order: Order, number: u32, size: usize) -> StretchStep
+pub fn delete_in(file: &mut [u8], order: Order, number: u32, size: usize) -> Result<usize, Refusal>
     ensures { (stretch_says result, file.new) ≡ delete_step order file.old number size }
 {
-    match delete_verdict(file, order, number, size) {
-        Err(refusal) => StretchStep {
-            answer: Err(refusal),
-            count: 0,
-        },
-        Ok(()) => {
-            write_number(order, 4, file, 4 * (10 + number as usize), EMPTY_SLOT);
-            set_next_free(file, order);
-            let stretches = survey_free(file, order);
-            let count = stretches.count;
-            StretchStep {
-                answer: Ok(count),
-                count: count,
-            }
-        }
-    }
+    delete_verdict(file, order, number, size)?;
+    write_number(order, 4, file, 4 * (10 + number as usize), EMPTY_SLOT);
+    set_next_free(file, order);
+    Ok(survey_free(file, order).count)
 }
 
 // The lowest-numbered empty slot, counted from 0; n where there is none.
@@ -79,18 +67,16 @@ fn lowest_empty(file: &[u8], order: Order) -> usize
     ensures { result ≡ lowest_empty (word_at order file.now) }
 {
     let n = read_word(order, file, 10) as usize;
-    let mut k = 0;
-    while k < n {
+    for k in 0..n {
         if read_word(order, file, 11 + k) == EMPTY_SLOT {
             return k;
         }
-        k += 1;
     }
     n
 }
 
-// What the rules of adding a grid say, of a file whose own checks have passed, for so many header bytes and values.
-#[tactic(auto, unfolding(refusal_rules::specs::Rules::chained))]
+// What the rules of adding a grid say, for so many header bytes and values.
+#[tactic(auto, using(refusal_rules::proofs::Tables::joined_faults), unfolding(refusal_rules::specs::Rules::first_fault, refusal_rules::specs::Rules::first, grid_update_rules::specs::Updates::add_rules))]
 fn add_verdict(
     file: &[u8],
     order: Order,
@@ -100,9 +86,9 @@ fn add_verdict(
     values: usize,
     size: usize,
 ) -> Result<(), Refusal>
-    requires { GridAccepted order file.now }
     ensures { verdict_of result ≡ first_fault (add_rules order file.now headers rows columns values size) }
 {
+    file_verdict(file, order)?;
     let n = read_word(order, file, 10) as usize;
     let points = rows as usize * columns as usize;
     let slot = lowest_empty(file, order);
@@ -116,24 +102,8 @@ fn add_verdict(
     check(room, Refusal::NoRoom)
 }
 
-// The plan of an addition that was refused.
-fn refused_plan(refusal: Refusal) -> AddPlan
-    ensures { result ≡ refused_plan refusal }
-{
-    AddPlan {
-        verdict: Err(refusal),
-        number: 0,
-        need: 0,
-        count: 0,
-        last: Extent {
-            start: 0,
-            length: 0,
-        },
-    }
-}
-
-// Plans the addition of a grid, for so many header bytes and values, with a table of `size` pairs. Its verdict refuses as `grid_updates::add`.
-#[tactic(auto, unfolding(extent_rules::specs::Steps::survey))]
+// Plans the addition of a grid, for so many header bytes and values, with a table of `size` pairs. Refused as `grid_updates::add`.
+#[tactic(auto, unfolding(extent_rules::specs::Steps::survey, grid_update_rules::specs::Steps::add_plan))]
 pub fn plan_add(
     file: &[u8],
     order: Order,
@@ -142,42 +112,18 @@ pub fn plan_add(
     columns: u32,
     values: usize,
     size: usize,
-) -> AddPlan
-    ensures { result ≡ add_plan order file.now headers rows columns values size }
+) -> Result<AddPlan, Refusal>
+    ensures { says result ≡ add_plan order file.now headers rows columns values size }
 {
-    match file_verdict(file, order) {
-        Err(refusal) => refused_plan(refusal),
-        Ok(()) => {
-            match add_verdict(file, order, headers, rows, columns, values, size) {
-                Err(refusal) => refused_plan(refusal),
-                Ok(()) => {
-                    let slot = lowest_empty(file, order);
-                    let stretches = survey_free(file, order);
-                    let last = stretches.last;
-                    AddPlan {
-                        verdict: Ok(()),
-                        number: slot as u32 + 1,
-                        need: 64 + rows as usize * columns as usize,
-                        count: stretches.count - 1,
-                        last: last,
-                    }
-                }
-            }
-        }
-    }
-}
-
-// Copies bytes to the byte `at` of a file. They must be inside it.
-fn write_bytes(file: &mut [u8], at: usize, bytes: &[u8])
-    requires { at + length bytes.now ≤ length file.old }
-    ensures { file.new ≡ sets file.old at bytes.now }
-{
-    let n = bytes.len();
-    let mut i = 0;
-    while i < n {
-        file[at + i] = bytes[i];
-        i += 1;
-    }
+    add_verdict(file, order, headers, rows, columns, values, size)?;
+    let slot = lowest_empty(file, order);
+    let stretches = survey_free(file, order);
+    Ok(AddPlan {
+        number: slot as u32 + 1,
+        need: 64 + rows as usize * columns as usize,
+        count: stretches.count - 1,
+        last: stretches.last,
+    })
 }
 
 // Writes signed words, one after another, from the byte `at` of a file on. They must be inside it.
@@ -186,11 +132,8 @@ fn write_values(file: &mut [u8], order: Order, at: usize, values: &[i32])
     requires { at + 4 * length values.now ≤ length file.old }
     ensures { file.new ≡ sets file.old at (bytes_of order (map (of_z w32) values.now)) }
 {
-    let n = values.len();
-    let mut i = 0;
-    while i < n {
-        write_signed(order, file, at + 4 * i, values[i]);
-        i += 1;
+    for (i, value) in values.iter().enumerate() {
+        write_signed(order, file, at + 4 * i, *value);
     }
 }
 
@@ -212,13 +155,12 @@ fn write_grid(
     write_number(order, 4, file, 4 * at, size as u32);
     write_number(order, 4, file, 4 * at + 4, rows);
     write_number(order, 4, file, 4 * at + 8, columns);
-    write_bytes(file, 4 * at + 12, &header[12..]);
+    file[4 * at + 12..4 * at + 256].copy_from_slice(&header[12..]);
     write_values(file, order, 4 * at + 256, values);
 }
 
 // Carries out the plan of an addition, where `found` was found among the free stretches before the last. The caller must make sure that the plan is the one for
-// this file, and that what was found, or else the last stretch, begins at the lowest address at which the grid has room. Nothing is written where the plan
-// refuses.
+// this file and a table of `size` pairs, and that what was found, or else the last stretch, begins at the lowest address at which the grid has room.
 #[tactic(auto, unfolding(grid_update_rules::specs::Updates::with_grid, grid_update_rules::specs::Updates::grid_put, grid_update_rules::specs::Steps::add_step))]
 pub fn add_at(
     file: &mut [u8],
@@ -230,32 +172,17 @@ pub fn add_at(
     size: usize,
     plan: AddPlan,
     found: Extent,
-) -> AdditionStep
+) -> Added
     requires { Ready order file.old header.now rows columns values.now size plan found }
-    ensures { (addition_says result, file.new) ≡ add_step order file.old header.now rows columns values.now size }
+    ensures { (addition_says (Ok result), file.new) ≡ add_step order file.old header.now rows columns values.now size }
 {
-    let verdict = plan.verdict;
-    match verdict {
-        Err(refusal) => AdditionStep {
-            answer: Err(refusal),
-            count: 0,
-        },
-        Ok(()) => {
-            let last = plan.last;
-            let room = first_fitting(plan.need, found, last);
-            let at = room.start;
-            write_grid(file, order, header, rows, columns, values, at);
-            write_number(order, 4, file, 4 * (10 + plan.number as usize), at as u32);
-            set_next_free(file, order);
-            let stretches = survey_free(file, order);
-            AdditionStep {
-                answer: Ok(Added {
-                    number: plan.number,
-                    address: at,
-                    stretches: stretches.count,
-                }),
-                count: stretches.count,
-            }
-        }
+    let at = first_fitting(plan.need, found, plan.last).start;
+    write_grid(file, order, header, rows, columns, values, at);
+    write_number(order, 4, file, 4 * (10 + plan.number as usize), at as u32);
+    set_next_free(file, order);
+    Added {
+        number: plan.number,
+        address: at,
+        stretches: survey_free(file, order).count,
     }
 }

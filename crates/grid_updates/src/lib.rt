@@ -13,39 +13,20 @@ use extent_rules::Extent;
 use extent_steps::survey_free;
 use extent_table_steps::{fill, search};
 use grid::file_verdict;
-use grid_update_rules::{Added, StretchStep};
+use grid_update_rules::Added;
 use grid_update_steps::{add_at, delete_in, plan_add};
 use refusal::check;
 use refusal_rules::Refusal;
 
 // Counts the free stretches of a file, for a table of `size` pairs. Refused as `free_stretches`.
-#[tactic(auto, unfolding(grid_update_rules::specs::Steps::tell_step))]
-fn count_stretches(file: &[u8], order: Order, size: usize) -> StretchStep
+#[tactic(auto, using(refusal_rules::proofs::Tables::joined_faults), unfolding(refusal_rules::specs::Rules::first_fault, refusal_rules::specs::Rules::first, extent_rules::specs::Steps::survey, grid_update_rules::specs::Updates::stretch_rules, grid_update_rules::specs::Steps::tell_step))]
+fn count_stretches(file: &[u8], order: Order, size: usize) -> Result<usize, Refusal>
     ensures { stretch_says result ≡ tell_step order file.now size }
 {
-    match file_verdict(file, order) {
-        Err(refusal) => StretchStep {
-            answer: Err(refusal),
-            count: 0,
-        },
-        Ok(()) => {
-            let n = read_word(order, file, 10) as usize;
-            match check(n + 1 <= size, Refusal::ShortOutput) {
-                Err(refusal) => StretchStep {
-                    answer: Err(refusal),
-                    count: 0,
-                },
-                Ok(()) => {
-                    let stretches = survey_free(file, order);
-                    let count = stretches.count;
-                    StretchStep {
-                        answer: Ok(count),
-                        count: count,
-                    }
-                }
-            }
-        }
-    }
+    file_verdict(file, order)?;
+    let n = read_word(order, file, 10) as usize;
+    check(n + 1 <= size, Refusal::ShortOutput)?;
+    Ok(survey_free(file, order).count)
 }
 
 // Answers how many free stretches the file has, which then stand in the first places of the table, in address order; places past them stay.
@@ -54,9 +35,9 @@ fn count_stretches(file: &[u8], order: Order, size: usize) -> StretchStep
 pub fn free_stretches(file: &[u8], order: Order, table: &mut [Extent]) -> Result<usize, Refusal>
     ensures { (says result, table.new) ≡ tell_stretches order file.now table.old }
 {
-    let step = count_stretches(file, order, table.len());
-    fill(table, file, order, step.count);
-    step.answer
+    let count = count_stretches(file, order, table.len())?;
+    fill(table, file, order, count);
+    Ok(count)
 }
 
 // Deletes the grid of a number, counted from 1: its slot becomes empty, and the next free word the end of the highest grid that is left. No other byte changes.
@@ -67,9 +48,9 @@ pub fn free_stretches(file: &[u8], order: Order, table: &mut [Extent]) -> Result
 pub fn delete(file: &mut [u8], order: Order, number: u32, table: &mut [Extent]) -> Result<usize, Refusal>
     ensures { (says result, (file.new, table.new)) ≡ delete_grid order file.old number table.old }
 {
-    let change = delete_in(file, order, number, table.len());
-    fill(table, file, order, change.count);
-    change.answer
+    let count = delete_in(file, order, number, table.len())?;
+    fill(table, file, order, count);
+    Ok(count)
 }
 
 // Adds a grid of so many rows and columns: its header, 256 bytes as they go into the file but for words 1 to 3, which are the size, the rows and the columns, and
@@ -99,9 +80,9 @@ pub fn add(
         columns,
         values.len(),
         table.len(),
-    );
+    )?;
     let found = search(table, file, order, plan.count, plan.need);
-    let change = add_at(
+    let added = add_at(
         file,
         order,
         header,
@@ -112,6 +93,6 @@ pub fn add(
         plan,
         found,
     );
-    fill(table, file, order, change.count);
-    change.answer
+    fill(table, file, order, added.stretches);
+    Ok(added)
 }

@@ -1,8 +1,7 @@
 // The text of the listing of an AREA file, in bytes, as the listing program prints it.
 #![tactic(auto)]
 
-ghost use Rattle.std.specs.Prelude.{◌≡◌, ◌≤◌, length, take, get_or};
-ghost use Rattle.lists.specs.Lists.{list_of};
+ghost use Rattle.std.specs.Prelude.{◌≡◌, ◌≤◌, length, take};
 ghost use Rattle.refusal_rules.specs.Answers.{gives, says};
 ghost use Rattle.copy_rules.specs.Runs.{copied};
 ghost use Rattle.listing_rules.specs.Page.{order_line, layout_lines, block_name, block_line, block_lines, listing_text};
@@ -74,13 +73,9 @@ fn append_blocks(text: Text, blocks: BlockList) -> Text
     requires { (blocks.count ≤ 6) × (length blocks.entries ≡ 6) }
     ensures { result ≡ append_bytes text (block_lines (take blocks.count blocks.entries)) }
 {
-    let count = blocks.count;
-    let entries = blocks.entries;
     let mut t = text;
-    let mut i = 0;
-    while i < count {
-        t = append_block(t, entries[i]);
-        i += 1;
+    for entry in &blocks.entries[..blocks.count] {
+        t = append_block(t, *entry);
     }
     t
 }
@@ -100,34 +95,13 @@ fn text_of(file: &[u8]) -> Text
         return append_bytes(empty, b"TOO LONG\n");
     }
     let listing = list_area(file);
-    let opening = listing.opening;
-    let blocks = listing.blocks;
-    match opening {
-        Ok(layout) => append_blocks(append_layout(empty, layout), blocks),
+    match listing.opening {
+        Ok(layout) => append_blocks(append_layout(empty, layout), listing.blocks),
         Err(refusal) => {
-            let line = append_two(
-                empty,
-                b"REFUSED ",
-                refusal.number as u64,
-                b" at ",
-                refusal.place,
-            );
+            let number = refusal.number() as u64;
+            let line = append_two(empty, b"REFUSED ", number, b" at ", refusal.place());
             append_bytes(line, b"\n")
         }
-    }
-}
-
-// Fills an output with the first bytes of a text.
-#[tactic(auto, unfolding(lists::specs::Lists::list_of))]
-fn fill_text(text: Text, out: &mut [u8])
-    requires { length out.old ≤ 512 }
-    ensures { out.new ≡ list_of (λ i. get_or text.bytes i 0) (length out.old) }
-{
-    let bytes = text.bytes;
-    let mut i = 0;
-    while i < out.len() {
-        out[i] = bytes[i];
-        i += 1;
     }
 }
 
@@ -142,6 +116,7 @@ pub fn list_text(file: &[u8], out: &mut [u8]) -> Result<usize, Refusal>
     if out.len() < count {
         return Err(Refusal::ShortOutput);
     }
-    fill_text(text, &mut out[..count]);
+    let listing = &text.bytes[..count];
+    out[..count].copy_from_slice(listing);
     Ok(count)
 }

@@ -19,7 +19,7 @@ use refusal_rules::Refusal;
 use word_copy_steps::fill_words;
 
 // What the rules of a record of a row and a column say: 7 where there is no such record.
-#[tactic(auto, unfolding(md_part_rules::specs::Records::record_rules, refusal_rules::specs::Rules::chained))]
+#[tactic(auto, unfolding(md_part_rules::specs::Records::record_rules, refusal_rules::specs::Rules::first_fault, refusal_rules::specs::Rules::first))]
 fn record_verdict(l: MdLayout, row: u32, column: u32) -> Result<(), Refusal>
     ensures { verdict_of result ≡ first_fault (record_rules l row column) }
 {
@@ -33,10 +33,8 @@ fn fill_part(file: &[u8], l: MdLayout, row: u32, column: u32, out: &mut [i32])
     requires { MdOf l.order file.now l × ((row ≤ l.rows) × ((column ≤ l.columns) × (length out.old ≡ fields_of l row column))) }
     ensures { out.new ≡ part_fields file.now l row column }
 {
-    let order = l.order;
-    match part_start(l, row, column) {
-        Ok(word) => fill_words(order, file, 4 * word, 4, out),
-        Err(_) => {}
+    if let Ok(word) = part_start(l, row, column) {
+        fill_words(l.order, file, 4 * word, 4, out);
     }
 }
 
@@ -55,7 +53,13 @@ fn fill_record(file: &[u8], l: MdLayout, row: u32, column: u32, out: &mut [i32])
 
 // Copies a record of an accepted file. Refused with 7 where there is no such record, then with 10 where the output is too short.
 #[tactic(auto, unfolding(md_part_rules::specs::Records::record_in))]
-fn copy_of(file: &[u8], l: MdLayout, row: u32, column: u32, out: &mut [i32]) -> Result<usize, Refusal>
+fn copy_of(
+    file: &[u8],
+    l: MdLayout,
+    row: u32,
+    column: u32,
+    out: &mut [i32],
+) -> Result<usize, Refusal>
     requires { MdOf l.order file.now l }
     ensures { (says result, out.new) ≡ copied (record_in file.now l row column) out.old }
 {

@@ -15,6 +15,7 @@ use value_rules::ValueName;
 
 // Where a named value lies in a file. Refused with 9 where the layout is stale, then with 7 where it is of another kind than the name, then with 4 at 19 where
 // a band is named and the band map is unusable, then with 7 where there is no such line, element, slot, band, point or field.
+#[tactic(auto, unfolding(layout_rules::specs::Found::found))]
 pub fn place_in(file: &[u8], layout: Layout, name: ValueName) -> Result<Place, Refusal>
     ensures { says result ≡ place_in file.now layout name }
 {
@@ -26,7 +27,7 @@ pub fn place_in(file: &[u8], layout: Layout, name: ValueName) -> Result<Place, R
 }
 
 // The sample of a line and an element, both counted from 0, and a slot or band of an AREA file: an unsigned number. Refused as `place_in`.
-#[tactic(auto, unfolding(value_rules::specs::Reading::read_sample))]
+#[tactic(auto, using(value_rules::proofs::Reading::read_inside), unfolding(value_rules::specs::Reading::read_sample))]
 pub fn read_sample(
     file: &[u8],
     layout: Layout,
@@ -36,29 +37,24 @@ pub fn read_sample(
 ) -> Result<u32, Refusal>
     ensures { says result ≡ read_sample file.now layout line element which }
 {
-    let order = order_of(layout);
-    let name = ValueName::Sample {
-        line: line,
-        element: element,
-        which: which,
+    let sample = ValueName::Sample {
+        line,
+        element,
+        which,
     };
-    let place = place_in(file, layout, name)?;
-    Ok(read_number(
-            order,
-            place.width,
-            file,
-            place.address,
-        ))
+    let place = place_in(file, layout, sample)?;
+    let order = order_of(layout);
+    Ok(read_number(order, place.width, file, place.address))
 }
 
 // The signed word of a point or a field.
-#[tactic(auto, unfolding(value_rules::specs::Reading::read_word))]
+#[tactic(auto, using(value_rules::proofs::Reading::word_inside), unfolding(value_rules::specs::Reading::read_word))]
 fn read_word_of(file: &[u8], layout: Layout, name: ValueName) -> Result<i32, Refusal>
     requires { IsWord name }
     ensures { says result ≡ read_word file.now layout name }
 {
-    let order = order_of(layout);
     let place = place_in(file, layout, name)?;
+    let order = order_of(layout);
     Ok(read_signed(order, file, place.address))
 }
 
@@ -66,27 +62,23 @@ fn read_word_of(file: &[u8], layout: Layout, name: ValueName) -> Result<i32, Ref
 pub fn read_point(file: &[u8], layout: Layout, row: u32, column: u32) -> Result<i32, Refusal>
     ensures { says result ≡ read_point file.now layout row column }
 {
-    read_word_of(
-        file,
-        layout,
-        ValueName::Point {
-            row: row,
-            column: column,
-        },
-    )
+    read_word_of(file, layout, ValueName::Point { row, column })
 }
 
 // The field at a position, counted from 1, of the part of an MD file that coordinates name: a signed word. Refused as `place_in`.
-pub fn read_field(file: &[u8], layout: Layout, row: u32, column: u32, position: u32) -> Result<i32, Refusal>
+pub fn read_field(
+    file: &[u8],
+    layout: Layout,
+    row: u32,
+    column: u32,
+    position: u32,
+) -> Result<i32, Refusal>
     ensures { says result ≡ read_field file.now layout row column position }
 {
-    read_word_of(
-        file,
-        layout,
-        ValueName::Field {
-            row: row,
-            column: column,
-            position: position,
-        },
-    )
+    let field = ValueName::Field {
+        row,
+        column,
+        position,
+    };
+    read_word_of(file, layout, field)
 }

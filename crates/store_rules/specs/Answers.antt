@@ -1,7 +1,6 @@
 -- What a store's answer says, and a store by the name of its value.
 -- Assumes nothing.
 use Rattle.std.specs.Prelude.{List, ℕ}
-use Rattle.refusal_rules.specs.Answers.{gives, refuses}
 use Rattle.store_theory.specs.Plans.{outcome}
 use Rattle.layout_rules.specs.Layouts.{layout_order}
 use Rattle.layout_rules.specs.declared.Layout.{Layout}

@@ -46,17 +46,17 @@ fn put(file: &mut [u8], order: Order, place: Place, number: u32) -> Result<(), R
 }
 
 // Stores the number that a value's bits are.
-#[tactic(auto, unfolding(store_theory::specs::Plans::outcome))]
+#[tactic(auto, using(value_rules::proofs::Reading::place_room), unfolding(store_theory::specs::Plans::outcome))]
 fn store(file: &mut [u8], layout: Layout, name: ValueName, number: u32) -> Result<(), Refusal>
     ensures { (says result, file.new) ≡ store_at file.old layout name number }
 {
-    let order = order_of(layout);
     let place = place_in(file, layout, name)?;
-    put(file, order, place, number)
+    put(file, order_of(layout), place, number)
 }
 
 // Stores a number, 0 to 4,294,967,295, into the sample of a line and an element, both counted from 0, and a slot or band of an AREA file. Refused as
 // `reads::read_sample`, and then with 8 where the number does not fit the bytes of a sample.
+#[tactic(auto, using(store_rules::proofs::Single::store_by_place))]
 pub fn store_sample(
     file: &mut [u8],
     layout: Layout,
@@ -68,14 +68,15 @@ pub fn store_sample(
     ensures { (says result, file.new) ≡ store_sample file.old layout line element which number }
 {
     let sample = ValueName::Sample {
-        line: line,
-        element: element,
-        which: which,
+        line,
+        element,
+        which,
     };
     store(file, layout, sample, number)
 }
 
 // Stores a signed word into the point of a row and a column, both counted from 1, of a grid. Refused as `reads::read_point`.
+#[tactic(auto, using(store_rules::proofs::Single::store_by_place))]
 pub fn store_point(
     file: &mut [u8],
     layout: Layout,
@@ -85,14 +86,12 @@ pub fn store_point(
 ) -> Result<(), Refusal>
     ensures { (says result, file.new) ≡ store_point file.old layout row column value }
 {
-    let point = ValueName::Point {
-        row: row,
-        column: column,
-    };
+    let point = ValueName::Point { row, column };
     store(file, layout, point, unsigned(value))
 }
 
 // Stores a signed word into the field at a position, counted from 1, of the part of an MD file that coordinates name. Refused as `reads::read_field`.
+#[tactic(auto, using(store_rules::proofs::Single::store_by_place))]
 pub fn store_field(
     file: &mut [u8],
     layout: Layout,
@@ -104,9 +103,9 @@ pub fn store_field(
     ensures { (says result, file.new) ≡ store_field file.old layout row column position value }
 {
     let field = ValueName::Field {
-        row: row,
-        column: column,
-        position: position,
+        row,
+        column,
+        position,
     };
     store(file, layout, field, unsigned(value))
 }

@@ -6,4 +6,4 @@ use Rattle.md_keys.proofs.find_key.Goals as goal
 use Rattle.refusal_rules.specs.Answers.{says}
 
 pub find_in-requires : goal.find_in-requires
-find_in-requires c = md_known _ _ _ (sym c.md_of.ensures ∙ ap says c.in-Opened.is)
+find_in-requires c = md_known _ _ _ (sym c.md_of.ensures ∙ ap says c.in_ok-l.was)

@@ -6,4 +6,4 @@ use Rattle.md_records.proofs.copy_record.Goals as goal
 use Rattle.refusal_rules.specs.Answers.{says}
 
 pub copy_of-requires : goal.copy_of-requires
-copy_of-requires c = md_known _ _ _ (sym c.md_of.ensures ∙ ap says c.in-Opened.is)
+copy_of-requires c = md_known _ _ _ (sym c.md_of.ensures ∙ ap says c.in_ok-l.was)

@@ -1,40 +1,22 @@
 -- `md_records::fill_record` meets its contract: row header, column header and data stand one behind the other in the output.
 -- Assumes nothing.
 use mathlib.Core.Path.{sym, ◌∙◌}
-use Prim.Native.Nat.{◌+◌, ◌≤◌}
 use native.Mathlib.Omega.{arith}
-use lib.ListN.{length}
 use lib.Seq.{length-take-le}
 use Rattle.md_part_rules.proofs.Fills.{row_fields, column-room, data_room, record_over}
 use Rattle.md_records.proofs.fill_record.Goals as goal
-
--- the three parts have room
-room_at_After_fill_part_arg_1 : (s : goal.After-fill_part-arg-1) → s.args.l.row_keys + s.args.l.column_keys + s.args.l.data_keys ≤ length s.args.out.now
-room_at_After_fill_part_arg_1 s = omega (arith, s.requires.0.fits.sum, s.requires.1.1)
-
--- the three parts have room
-room_at_After_fill_part_arg_2_1 : (s : goal.After-fill_part-arg-2-1) → s.args.l.row_keys + s.args.l.column_keys + s.args.l.data_keys ≤ length s.args.out.now
-room_at_After_fill_part_arg_2_1 s = omega (arith, s.requires.0.fits.sum, s.requires.1.1)
-
--- the three parts have room
-room_at_After_fill_part_arg_3_1 : (s : goal.After-fill_part-arg-3-1) → s.args.l.row_keys + s.args.l.column_keys + s.args.l.data_keys ≤ length s.args.out.now
-room_at_After_fill_part_arg_3_1 s = omega (arith, s.requires.0.fits.sum, s.requires.1.1)
-
--- the three parts have room
-room_at_After_out_3_1 : (s : goal.After-out-3-1) → s.args.l.row_keys + s.args.l.column_keys + s.args.l.data_keys ≤ length s.args.out.now
-room_at_After_out_3_1 s = omega (arith, s.requires.0.fits.sum, s.requires.1.1)
 
 pub fill_part-requires : goal.fill_part-requires
 fill_part-requires c =
     let s = c in
     let is = s.requires.1.0 in
-    (s.requires.0, (is.row_to, (omega arith, length-take-le _ _ (omega (arith, room_at_After_fill_part_arg_1 s)) ∙ sym (row_fields _ _ is.row_from))))
+    (s.requires.0, (is.row_to, (omega arith, length-take-le _ _ (omega (arith, s.requires.0.fits.sum, s.requires.1.1)) ∙ sym (row_fields _ _ is.row_from))))
 
 pub fill_part-requires-2 : goal.fill_part-requires-2
 fill_part-requires-2 c =
     let s = c in
     let is = s.requires.1.0 in
-    let places = column-room s.args.file.now s.args.l is s.args.out.now (room_at_After_fill_part_arg_2_1 s) c.fill_part.ensures in
+    let places = column-room s.args.file.now s.args.l is s.args.out.now (omega (arith, s.requires.0.fits.sum, s.requires.1.1)) c.fill_part.ensures in
     (s.requires.0, (omega arith, (is.column_to, places)))
 
 pub fill_part-requires-3 : goal.fill_part-requires-3
@@ -42,7 +24,7 @@ fill_part-requires-3 c =
     let s = c in
     let is = s.requires.1.0 in
     let row = c.fill_part.ensures in
-    let places = data_room s.args.file.now s.args.l is s.args.out.now (room_at_After_fill_part_arg_3_1 s) row c.fill_part-2.ensures in
+    let places = data_room s.args.file.now s.args.l is s.args.out.now (omega (arith, s.requires.0.fits.sum, s.requires.1.1)) row c.fill_part-2.ensures in
     (s.requires.0, (is.row_to, (is.column_to, places)))
 
 pub returns : goal.returns
@@ -50,4 +32,4 @@ returns c =
     let s = c in
     let row = c.fill_part.ensures in
     let column = c.fill_part-2.ensures in
-    record_over s.args.file.now s.args.l s.requires.1.0 s.args.out.now (room_at_After_out_3_1 s) row column c.fill_part-3.ensures
+    record_over s.args.file.now s.args.l s.requires.1.0 s.args.out.now (omega (arith, s.requires.0.fits.sum, s.requires.1.1)) row column c.fill_part-3.ensures
