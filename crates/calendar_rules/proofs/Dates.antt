@@ -10,7 +10,7 @@ use lib.IntN.{ℤ, pos, negsuc, pos-ne-negsuc}
 use lib.ListN.{get_or}
 use borrow.Author.Tests.{leb-true, le-leb}
 use Rattle.refusal_rules.specs.Rules.{Hold}
-use Rattle.refusal_rules.specs.Answers.{Answer, gives, refuses, says}
+use Rattle.refusal_rules.specs.Answers.{gives, refuses}
 use Rattle.refusal_rules.proofs.Exactness.{within_exactly}
 use Rattle.refusal_rules.proofs.Answers.{value_exactly, exactly_one, exactly_none}
 use Rattle.calendar_rules.specs.Gregorian.{leap, month_lengths, days_before, year_length, IsDate, day_of_year, month_of, date_in}

@@ -9,7 +9,7 @@ use lib.Dec.{leb-zero}
 use lib.IntN.{ℤ, pos, negsuc, pos-ne-negsuc}
 use borrow.Author.Tests.{leb-true, le-leb}
 use Rattle.refusal_rules.specs.Rules.{Hold}
-use Rattle.refusal_rules.specs.Answers.{Answer, gives, refuses, says}
+use Rattle.refusal_rules.specs.Answers.{gives, refuses}
 use Rattle.refusal_rules.proofs.Answers.{value_exactly, exactly_one, exactly_none}
 use Rattle.calendar_rules.specs.Times.{time_in, time_rules, time_of, TimeWord}
 use Rattle.calendar_rules.specs.declared.TimeOfDay.{TimeOfDay}

@@ -4,7 +4,7 @@
 use Rattle.std.specs.Prelude.{◌≡◌, List, [], ◌∷◌, ℕ, ◌+◌, ◌-◌, ◌*◌, ◌/◌, ◌%◌, ◌≤◌, leb, ℤ, pos, nat_abs}
 use Rattle.std.specs.Int.Signed.{le_z}
 use Rattle.refusal_rules.specs.Rules.{Rule, rule, first_fault}
-use Rattle.refusal_rules.specs.Answers.{Answer, gives, refuses, answered}
+use Rattle.refusal_rules.specs.Answers.{Answer, answered}
 use Rattle.refusal_rules.specs.Tests.{within}
 use Rattle.calendar_rules.specs.Gregorian.{leap, year_length, IsDate, day_of_year, date_in}
 use Rattle.calendar_rules.specs.declared.Date.{Date}

@@ -3,7 +3,7 @@
 use Rattle.std.specs.Prelude.{◌≡◌, List, [], ◌∷◌, ◌+◌, ◌*◌, ◌/◌, ◌%◌, ◌≤◌, leb, ℤ, pos, nat_abs}
 use Rattle.std.specs.Int.Signed.{le_z}
 use Rattle.refusal_rules.specs.Rules.{Rule, rule, first_fault}
-use Rattle.refusal_rules.specs.Answers.{Answer, gives, refuses, answered}
+use Rattle.refusal_rules.specs.Answers.{Answer, answered}
 use Rattle.calendar_rules.specs.declared.TimeOfDay.{TimeOfDay}
 
 -- the hours, minutes and seconds that a time word holds

@@ -9,8 +9,8 @@ use endian_rules::Order;
 use layout::open_grid;
 use layout_rules::Layout;
 use reads::read_point;
-use stores::store_point;
 use refusal_rules::Refusal;
+use stores::store_point;
 
 // A correction of a grid: a row, a column and the value that the point should have.
 #[derive(Clone, Copy, Debug, PartialEq, Eq)]
@@ -29,6 +29,7 @@ pub struct TwoAnswers {
 
 // Corrects the point of a row and a column of a grid: the file is opened, the value that the point has is read, and the value that it should have is stored in its
 // place. Answers the old value. Refused as `layout::open_grid` and then as `reads::read_point`; the file is then as it was.
+#[tactic(auto, using(crate::proofs::Corrections::unread_told))]
 pub fn correct_point(
     file: &mut [u8],
     order: Order,
@@ -40,9 +41,9 @@ pub fn correct_point(
     ensures { (says result, file.new) ≡ correct_point file.old order number row column value }
 {
     let layout = open_grid(file, order, number)?;
-    let old = read_point(file, layout, row, column);
-    store_point(file, layout, row, column, value);
-    old
+    let old = read_point(file, layout, row, column)?;
+    store_point(file, layout, row, column, value)?;
+    Ok(old)
 }
 
 // Makes two corrections with a layout, one after the other. Each is refused as `stores::store_point`, and then changes nothing.

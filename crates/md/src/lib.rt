@@ -1,7 +1,7 @@
 // MD files, point records: opening a file, and comparing layouts.
 #![tactic(auto)]
 
-ghost use Rattle.std.specs.Prelude.{◌≡◌, ◌+◌, ◌*◌, ◌≤◌, length};
+ghost use Rattle.std.specs.Prelude.{◌≡◌, ◌<◌, ◌≤◌, ◌++◌, length};
 ghost use Rattle.endian_rules.specs.Words.{word_at};
 ghost use Rattle.refusal_rules.specs.Rules.{judge, first, first_fault, Pass};
 ghost use Rattle.md_rules.specs.Rules.{md_count, md_equal, md_count_rules, md_sum_rules, md_fixed_rules, md_end_rules, md_rules};
@@ -15,120 +15,130 @@ use md_rules::MdLayout;
 use refusal::{check, within};
 use refusal_rules::Refusal;
 
-// Refusal 3 at word k, unless the word is from `low` to `high`.
-fn count(file: &[u8], order: Order, k: usize, low: u32, high: u32) -> Result<(), Refusal>
-    requires { 4 * k + 4 ≤ length file.now }
-    ensures { verdict_of result ≡ judge (md_count (word_at order file.now) k low high) }
-{
-    check(
-        within(low, high, read_word(order, file, k)),
-        Refusal::CountOutOfBounds(k),
-    )
+// A file that has the 16,384 bytes that an MD file has at least, and the byte order in which its words are read.
+#[derive(Clone, Copy)]
+struct LongFile<'a> {
+    file: &'a [u8],
+    order: Order,
+    ghost long: { 16384 ≤ length file.now },
 }
 
-// Refusal 4 at word k, unless the word is n.
-fn equal(file: &[u8], order: Order, k: usize, n: usize) -> Result<(), Refusal>
-    requires { 4 * k + 4 ≤ length file.now }
-    ensures { verdict_of result ≡ judge (md_equal (word_at order file.now) k n) }
-{
-    check(
-        read_word(order, file, k) as usize == n,
-        Refusal::RuleBroken(k),
-    )
-}
+impl<'a> LongFile<'a> {
+    // The raw word k.
+    fn word(&self, k: usize) -> u32
+        requires { k < 4096 }
+        ensures { result ≡ word_at self.now.order self.now.file.now k }
+    {
+        read_word(self.order, self.file, k)
+    }
 
-// What the rules of the counts say.
-#[tactic(auto, unfolding(md_rules::specs::Rules::md_count_rules, refusal_rules::specs::Rules::first_fault, refusal_rules::specs::Rules::first))]
-fn count_verdict(file: &[u8], order: Order) -> Result<(), Refusal>
-    requires { 16384 ≤ length file.now }
-    ensures { verdict_of result ≡ first_fault (md_count_rules (word_at order file.now)) }
-{
-    count(file, order, 3, 1, 65535)?;
-    count(file, order, 4, 1, 1600000)?;
-    count(file, order, 5, 1, 400)?;
-    count(file, order, 6, 0, 400)?;
-    count(file, order, 7, 0, 400)?;
-    count(file, order, 8, 1, 400)
-}
+    // Refusal 3 at word k, unless the word is from `low` to `high`.
+    fn count(&self, k: usize, low: u32, high: u32) -> Result<(), Refusal>
+        requires { k < 4096 }
+        ensures { verdict_of result ≡ judge (md_count (word_at self.now.order self.now.file.now) k low high) }
+    {
+        check(
+            within(low, high, self.word(k)),
+            Refusal::CountOutOfBounds(k),
+        )
+    }
 
-// What the rules of the words that follow from the counts say, where the counts are within their bounds.
-#[tactic(auto, unfolding(md_rules::specs::Rules::md_sum_rules, refusal_rules::specs::Rules::first_fault, refusal_rules::specs::Rules::first))]
-fn sum_verdict(file: &[u8], order: Order) -> Result<(), Refusal>
-    requires { (16384 ≤ length file.now) × (first_fault (md_count_rules (word_at order file.now)) ≡ Pass) }
-    ensures { verdict_of result ≡ first_fault (md_sum_rules (word_at order file.now)) }
-{
-    let rows = read_word(order, file, 3) as usize;
-    let columns = read_word(order, file, 4) as usize;
-    let row_keys = read_word(order, file, 6) as usize;
-    let column_keys = read_word(order, file, 7) as usize;
-    let data_keys = read_word(order, file, 8) as usize;
-    let column_start = read_word(order, file, 28) as usize;
-    let keys = row_keys + column_keys + data_keys;
-    equal(file, order, 5, keys)?;
-    equal(file, order, 9, row_keys + 1)?;
-    equal(file, order, 10, row_keys + column_keys + 1)?;
-    equal(file, order, 27, 4096)?;
-    equal(file, order, 28, 4096 + rows * row_keys)?;
-    equal(file, order, 29, column_start + columns * column_keys)
-}
+    // Refusal 4 at word k, unless the word is n.
+    fn equal(&self, k: usize, n: usize) -> Result<(), Refusal>
+        requires { k < 4096 }
+        ensures { verdict_of result ≡ judge (md_equal (word_at self.now.order self.now.file.now) k n) }
+    {
+        check(self.word(k) as usize == n, Refusal::RuleBroken(k))
+    }
 
-// What the rules of the words that are the same in every file say.
-#[tactic(auto, unfolding(md_rules::specs::Rules::md_fixed_rules, refusal_rules::specs::Rules::first_fault, refusal_rules::specs::Rules::first))]
-fn fixed_verdict(file: &[u8], order: Order) -> Result<(), Refusal>
-    requires { 16384 ≤ length file.now }
-    ensures { verdict_of result ≡ first_fault (md_fixed_rules (word_at order file.now)) }
-{
-    equal(file, order, 31, 64)?;
-    equal(file, order, 32, 464)?;
-    equal(file, order, 33, 864)?;
-    equal(file, order, 34, 1264)
-}
+    // What the rules of the counts say.
+    #[tactic(auto, unfolding(md_rules::specs::Rules::md_count_rules, refusal_rules::specs::Rules::first_fault, refusal_rules::specs::Rules::first))]
+    fn count_verdict(&self) -> Result<(), Refusal>
+        ensures { verdict_of result ≡ first_fault (md_count_rules (word_at self.now.order self.now.file.now)) }
+    {
+        self.count(3, 1, 65535)?;
+        self.count(4, 1, 1600000)?;
+        self.count(5, 1, 400)?;
+        self.count(6, 0, 400)?;
+        self.count(7, 0, 400)?;
+        self.count(8, 1, 400)
+    }
 
-// What the rules of word 30 say, where the counts are within their bounds.
-#[tactic(auto, unfolding(md_rules::specs::Rules::md_end_rules, refusal_rules::specs::Rules::first_fault, refusal_rules::specs::Rules::first))]
-fn end_verdict(file: &[u8], order: Order) -> Result<(), Refusal>
-    requires { (16384 ≤ length file.now) × (first_fault (md_count_rules (word_at order file.now)) ≡ Pass) }
-    ensures { verdict_of result ≡ first_fault (md_end_rules (length file.now) (word_at order file.now)) }
-{
-    let rows = read_word(order, file, 3) as usize;
-    let columns = read_word(order, file, 4) as usize;
-    let data_keys = read_word(order, file, 8) as usize;
-    let data_start = read_word(order, file, 29) as usize;
-    let end = read_word(order, file, 30);
-    let data_end = data_start + rows * columns * data_keys;
-    check(at_least(data_end, end), Refusal::RuleBroken(30))?;
-    check(end as usize <= file.len() / 4, Refusal::Misplaced(30))
-}
+    // What the rules of the words that follow from the counts say, where the counts are within their bounds.
+    #[tactic(auto, unfolding(md_rules::specs::Rules::md_sum_rules, refusal_rules::specs::Rules::first_fault, refusal_rules::specs::Rules::first))]
+    fn sum_verdict(&self) -> Result<(), Refusal>
+        requires { first_fault (md_count_rules (word_at self.now.order self.now.file.now)) ≡ Pass }
+        ensures { verdict_of result ≡ first_fault (md_sum_rules (word_at self.now.order self.now.file.now)) }
+    {
+        let rows = self.word(3) as usize;
+        let columns = self.word(4) as usize;
+        let row_keys = self.word(6) as usize;
+        let column_keys = self.word(7) as usize;
+        let data_keys = self.word(8) as usize;
+        let column_start = self.word(28) as usize;
+        self.equal(5, row_keys + column_keys + data_keys)?;
+        self.equal(9, row_keys + 1)?;
+        self.equal(10, row_keys + column_keys + 1)?;
+        self.equal(27, 4096)?;
+        self.equal(28, 4096 + rows * row_keys)?;
+        self.equal(29, column_start + columns * column_keys)
+    }
 
-// What all rules of opening say of a file.
-#[tactic(auto, using(refusal_rules::proofs::Tables::joined_faults), unfolding(md_rules::specs::Rules::md_rules, refusal_rules::specs::Rules::first_fault, refusal_rules::specs::Rules::first, refusal_rules::specs::Rules::judge))]
-fn md_verdict(file: &[u8], order: Order) -> Result<(), Refusal>
-    ensures { verdict_of result ≡ first_fault (md_rules (length file.now) (word_at order file.now)) }
-{
-    check(16384 <= file.len(), Refusal::ShortFile)?;
-    count_verdict(file, order)?;
-    sum_verdict(file, order)?;
-    fixed_verdict(file, order)?;
-    end_verdict(file, order)
-}
+    // What the rules of the words that are the same in every file say.
+    #[tactic(auto, unfolding(md_rules::specs::Rules::md_fixed_rules, refusal_rules::specs::Rules::first_fault, refusal_rules::specs::Rules::first))]
+    fn fixed_verdict(&self) -> Result<(), Refusal>
+        ensures { verdict_of result ≡ first_fault (md_fixed_rules (word_at self.now.order self.now.file.now)) }
+    {
+        self.equal(31, 64)?;
+        self.equal(32, 464)?;
+        self.equal(33, 864)?;
+        self.equal(34, 1264)
+    }
 
-// The layout that the words of a file give.
-#[tactic(auto, unfolding(md_rules::specs::Opening::md_layout_of))]
-fn layout_of_words(file: &[u8], order: Order) -> MdLayout
-    requires { 16384 ≤ length file.now }
-    ensures { result ≡ md_layout_of order (length file.now) (word_at order file.now) }
-{
-    MdLayout {
-        order,
-        length: file.len(),
-        rows: read_word(order, file, 3),
-        columns: read_word(order, file, 4),
-        keys: read_word(order, file, 5),
-        row_keys: read_word(order, file, 6),
-        column_keys: read_word(order, file, 7),
-        data_keys: read_word(order, file, 8),
-        column_start: read_word(order, file, 28),
-        data_start: read_word(order, file, 29),
+    // What the rules of word 30 say, where the counts are within their bounds.
+    #[tactic(auto, unfolding(md_rules::specs::Rules::md_end_rules, refusal_rules::specs::Rules::first_fault, refusal_rules::specs::Rules::first))]
+    fn end_verdict(&self) -> Result<(), Refusal>
+        requires { first_fault (md_count_rules (word_at self.now.order self.now.file.now)) ≡ Pass }
+        ensures { verdict_of result ≡ first_fault (md_end_rules (length self.now.file.now) (word_at self.now.order self.now.file.now)) }
+    {
+        let rows = self.word(3) as usize;
+        let columns = self.word(4) as usize;
+        let data_keys = self.word(8) as usize;
+        let data_start = self.word(29) as usize;
+        let end = self.word(30);
+        let data_end = data_start + rows * columns * data_keys;
+        check(at_least(data_end, end), Refusal::RuleBroken(30))?;
+        check(end as usize <= self.file.len() / 4, Refusal::Misplaced(30))
+    }
+
+    // What all rules but that of the length say.
+    #[tactic(auto, using(refusal_rules::proofs::Tables::joined_faults), unfolding(refusal_rules::specs::Rules::first))]
+    fn verdict(&self) -> Result<(), Refusal>
+        ensures { verdict_of result ≡ first_fault (md_count_rules (word_at self.now.order self.now.file.now) ++ (md_sum_rules (word_at self.now.order self.now.file.now) ++ (md_fixed_rules (word_at self.now.order self.now.file.now) ++ md_end_rules (length self.now.file.now) (word_at self.now.order self.now.file.now)))) }
+    {
+        self.count_verdict()?;
+        self.sum_verdict()?;
+        self.fixed_verdict()?;
+        self.end_verdict()
+    }
+
+    // The layout that the words give.
+    #[tactic(auto, unfolding(md_rules::specs::Opening::md_layout_of))]
+    fn layout(&self) -> MdLayout
+        ensures { result ≡ md_layout_of self.now.order (length self.now.file.now) (word_at self.now.order self.now.file.now) }
+    {
+        MdLayout {
+            order: self.order,
+            length: self.file.len(),
+            rows: self.word(3),
+            columns: self.word(4),
+            keys: self.word(5),
+            row_keys: self.word(6),
+            column_keys: self.word(7),
+            data_keys: self.word(8),
+            column_start: self.word(28),
+            data_start: self.word(29),
+        }
     }
 }
 
@@ -138,8 +148,10 @@ fn layout_of_words(file: &[u8], order: Order) -> MdLayout
 pub fn open(file: &[u8], order: Order) -> Result<MdLayout, Refusal>
     ensures { says result ≡ open_md order file.now }
 {
-    md_verdict(file, order)?;
-    Ok(layout_of_words(file, order))
+    check(16384 <= file.len(), Refusal::ShortFile)?;
+    let long = LongFile { file, order };
+    long.verdict()?;
+    Ok(long.layout())
 }
 
 // Whether two MD layouts are the same in every field.

@@ -1,7 +1,7 @@
 -- A file is opened exactly where document 01's rules hold of it, one line a rule and direction, and what opening answers, or what a
 -- comparison of layouts says, leaves nothing open.
 -- Assumes nothing.
-use mathlib.Core.Path.{◌≡◌, refl, ap}
+use mathlib.Core.Path.{◌≡◌, ap}
 use mathlib.Core.Logic.{◌↔◌}
 use mathlib.Core.List.{List, ◌++◌}
 use Prim.Native.Nat.{ℕ, ◌+◌, ◌*◌, ◌/◌}
@@ -12,7 +12,7 @@ use Rattle.endian_rules.specs.declared.Order.{Order}
 use Rattle.endian_rules.proofs.Places.{order-same}
 use Rattle.endian_rules.proofs.Signs.{at_least_lem}
 use Rattle.refusal_rules.specs.Rules.{Rule, Hold, FirstFailing, Refused}
-use Rattle.refusal_rules.specs.Answers.{Answer, gives, refuses, says}
+use Rattle.refusal_rules.specs.Answers.{gives, refuses}
 use Rattle.refusal_rules.specs.Tests.{Exactly}
 use Rattle.refusal_rules.proofs.Tables.{hold-append, also}
 use Rattle.refusal_rules.proofs.Answers.{value_exactly, refusal_exactly}

@@ -4,7 +4,7 @@ use Rattle.std.specs.Prelude.{Bool, List, [], ◌∷◌, ℕ, length}
 use Rattle.endian_rules.specs.Words.{word_at, order_number}
 use Rattle.endian_rules.specs.declared.Order.{Order}
 use Rattle.refusal_rules.specs.Rules.{first_fault}
-use Rattle.refusal_rules.specs.Answers.{Answer, gives, refuses, answered}
+use Rattle.refusal_rules.specs.Answers.{Answer, answered}
 use Rattle.refusal_rules.specs.Tests.{same_numbers}
 use Rattle.md_rules.specs.Rules.{md_rules}
 use Rattle.md_rules.specs.declared.MdLayout.{MdLayout}

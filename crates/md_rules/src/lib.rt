@@ -20,4 +20,3 @@ pub struct MdLayout {
     pub column_start: u32,
     pub data_start: u32,
 }
-

@@ -1,6 +1,5 @@
 -- `md_records::fill_part` meets its contract: its fields are words, one behind the other, from the start of the part on, and an accepted file has the part.
 -- Assumes nothing.
-use mathlib.Core.Path.{◌≡◌}
 use native.Mathlib.Omega.{arith}
 use Rattle.md_part_rules.proofs.Fills.{part-words, part-inside, part-small, part_started, part_granted}
 use Rattle.md_records.proofs.fill_part.Goals as goal

@@ -1,9 +1,7 @@
 -- `md_records::fill_record` meets its contract: row header, column header and data stand one behind the other in the output.
 -- Assumes nothing.
 use mathlib.Core.Path.{sym, ◌∙◌}
-use Prim.Native.Nat.{◌+◌, ◌≤◌}
 use native.Mathlib.Omega.{arith}
-use lib.ListN.{length}
 use lib.Seq.{length-take-le}
 use Rattle.md_part_rules.proofs.Fills.{row_fields, column-room, data_room, record_over}
 use Rattle.md_records.proofs.fill_record.Goals as goal
