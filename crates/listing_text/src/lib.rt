@@ -1,8 +1,7 @@
 // The text of the listing of an AREA file, in bytes, as the listing program prints it.
 #![tactic(auto)]
 
-ghost use Rattle.std.specs.Prelude.{◌≡◌, ◌≤◌, length, take, get_or};
-ghost use Rattle.lists.specs.Lists.{list_of};
+ghost use Rattle.std.specs.Prelude.{◌≡◌, ◌≤◌, length, take};
 ghost use Rattle.refusal_rules.specs.Answers.{gives, says};
 ghost use Rattle.copy_rules.specs.Runs.{copied};
 ghost use Rattle.listing_rules.specs.Page.{order_line, layout_lines, block_name, block_line, block_lines, listing_text};
@@ -96,18 +95,11 @@ fn text_of(file: &[u8]) -> Text
         return append_bytes(empty, b"TOO LONG\n");
     }
     let listing = list_area(file);
-    let opening = listing.opening;
-    let blocks = listing.blocks;
-    match opening {
-        Ok(layout) => append_blocks(append_layout(empty, layout), blocks),
+    match listing.opening {
+        Ok(layout) => append_blocks(append_layout(empty, layout), listing.blocks),
         Err(refusal) => {
-            let line = append_two(
-                empty,
-                b"REFUSED ",
-                refusal.number() as u64,
-                b" at ",
-                refusal.place(),
-            );
+            let number = refusal.number() as u64;
+            let line = append_two(empty, b"REFUSED ", number, b" at ", refusal.place());
             append_bytes(line, b"\n")
         }
     }
