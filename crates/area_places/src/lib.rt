@@ -34,7 +34,7 @@ impl Bounded {
             && layout.width <= 4
             && layout.bands <= 64
         {
-            Ok(Bounded { layout: layout })
+            Ok(Bounded { layout })
         } else {
             Err(Refusal::NoSuch)
         }

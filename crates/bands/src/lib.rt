@@ -67,7 +67,7 @@ fn slot_of_band(layout: AreaLayout, band: u32) -> Result<u32, Refusal>
     let second = second_map(layout.bands, layout.map2);
     let map = BandMap {
         first: layout.map,
-        second: second,
+        second,
     };
     check(map.set_below(64) == layout.bands, Refusal::RuleBroken(19))?;
     check(map.has(band), Refusal::NoSuch)?;
