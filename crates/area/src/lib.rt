@@ -36,7 +36,7 @@ fn layout_of_words(told: usize, order: Order, words: &[u32; 64]) -> AreaLayout
     let map2 = second_map(words[13], words[19]);
     let padding = padding_length(words[35] == 0, words[48], words[49], words[50]);
     AreaLayout {
-        order: order,
+        order,
         length: told,
         lines: words[8],
         elements: words[9],
@@ -44,13 +44,13 @@ fn layout_of_words(told: usize, order: Order, words: &[u32; 64]) -> AreaLayout
         bands: words[13],
         prefix: words[14],
         map: words[18],
-        map2: map2,
+        map2,
         data_start: words[33],
         nav: words[34],
         documentation: words[48],
         calibration: words[49],
         band_list: words[50],
-        padding: padding,
+        padding,
         aux: words[59],
         cal: words[62],
         cards: words[63],

@@ -49,7 +49,7 @@ fn optional_span(l: AreaLayout, x: u32) -> Result<Span, Refusal>
     }
     let start = x as usize;
     Ok(Span {
-        start: start,
+        start,
         length: end_of(l, x) - start,
     })
 }
@@ -88,7 +88,7 @@ fn span_of(l: AreaLayout, block: Block) -> Result<Span, Refusal>
             let length = data_length(l)?;
             Ok(Span {
                 start: l.data_start as usize,
-                length: length,
+                length,
             })
         }
         Block::Audit => audit_span(l),

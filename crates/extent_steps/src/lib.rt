@@ -12,7 +12,6 @@ use endian_rules::Order;
 use endian_steps::read_word;
 use extent_rules::{Extent, LAST_END, Survey};
 use grid_rules::EMPTY_SLOT;
-use refusal::and;
 
 // The words of slot k's grid; no words where the slot is empty. The directory must be inside the file, and each grid.
 #[tactic(auto, unfolding(extent_rules::specs::Stretches::slot_extent))]
@@ -65,7 +64,7 @@ fn past_grid(file: &[u8], order: Order, p: usize) -> usize
     for k in 0..n {
         let grid = slot_extent(file, order, k);
         let end = grid.start + grid.length;
-        if and(grid.start <= p, p < end) {
+        if grid.start <= p && p < end {
             past = end;
         }
     }
@@ -82,8 +81,7 @@ fn next_grid(file: &[u8], order: Order, whole: usize, p: usize) -> usize
     let mut next = whole;
     for k in 0..n {
         let grid = slot_extent(file, order, k);
-        let ahead = and(p <= grid.start, grid.start < next);
-        if and(0 < grid.length, ahead) {
+        if 0 < grid.length && p <= grid.start && grid.start < next {
             next = grid.start;
         }
     }
@@ -96,6 +94,7 @@ fn lowest_free(file: &[u8], order: Order, p: usize) -> usize
     ensures { result ≡ lowest_free (word_at order file.now) (length file.now / 4) p }
 {
     let mut at = p;
+    // No range: a step goes as far as the grid at the word does.
     let mut past = past_grid(file, order, at);
     while at < past {
         at = past;
@@ -145,6 +144,7 @@ pub fn survey_free(file: &[u8], order: Order) -> Survey
     let mut last = directory_extent(file, order);
     let mut e = run_after(file, order, last);
     let mut count = 0;
+    // No range: how many runs there are is known at the last of them.
     while 0 < e.length {
         last = e;
         e = run_after(file, order, e);
@@ -157,10 +157,7 @@ pub fn survey_free(file: &[u8], order: Order) -> Survey
 fn fits_extent(e: Extent, need: usize) -> bool
     ensures { result ≡ fits_in need e }
 {
-    if LAST_END < need {
-        return false;
-    }
-    and(need <= e.length, e.start <= LAST_END - need)
+    need <= LAST_END && need <= e.length && e.start <= LAST_END - need
 }
 
 // What was found, if something was, else the extent if so many words fit into it and end by 2,147,483,647.
@@ -168,13 +165,11 @@ fn fits_extent(e: Extent, need: usize) -> bool
 pub fn first_fitting(need: usize, found: Extent, e: Extent) -> Extent
     ensures { result ≡ first_fitting need found e }
 {
-    if 0 < found.length {
-        return found;
+    if found.length == 0 && fits_extent(e, need) {
+        e
+    } else {
+        found
     }
-    if fits_extent(e, need) {
-        return e;
-    }
-    found
 }
 
 // Whether so many words, at least one, have an address: inside the file, in no grid, ending by 2,147,483,647. The caller must make sure that the file is
@@ -185,6 +180,7 @@ pub fn has_room(file: &[u8], order: Order, need: usize) -> bool
 {
     let start = directory_extent(file, order);
     let mut e = run_after(file, order, start);
+    // No range: how many runs there are is known at the last of them.
     while 0 < e.length {
         if fits_extent(e, need) {
             return true;

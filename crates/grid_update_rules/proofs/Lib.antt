@@ -7,5 +7,6 @@ pub mod Exact
 pub mod Worked
 pub mod Verdicts
 pub mod Plans
+pub mod Deleting
 pub mod Bytes
 pub mod Calls

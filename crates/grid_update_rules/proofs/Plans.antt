@@ -7,6 +7,8 @@ use native.Mathlib.Omega.{arith}
 use lib.IntN.{ℤ}
 use lib.ListN.{length}
 use lib.Seq.{sets, length-sets}
+use mir.Syntax.{w32}
+use mir.Val.{Fits}
 use borrow.Author.Tests.{lt-ltb}
 use Rattle.std.specs.Prelude.{Ok}
 use Rattle.endian_rules.specs.Numbers.{encode}
@@ -87,10 +89,10 @@ added_is : (o : Order) (f : List ℕ) (rows columns count number address : ℕ) 
     → address ≡ address_for o f (grid_words rows columns) → record { number = number; address = address; stretches = count } ≡ added o f rows columns count
 added_is o f rows columns count number address p q = rw (p, q)
 
--- Carrying out the plan of an addition: the grid's bytes are written to word `at` of a file f, which makes g of it; its slot is set, which makes h, and then the
--- next free word, which makes k.
+-- Carrying out the plan of an addition: the grid's bytes are written where the room for them begins, which makes g of a file f; its slot is set, which makes h,
+-- and then the next free word, which makes k.
 module _ (o : Order) (f header : List ℕ) (rows columns : ℕ) (values : List ℤ) (size : ℕ) (plan : AddPlan) (found : Extent)
-    (ready : Ready o f header rows columns values size plan found) (at : ℕ) (e : at ≡ (first_fitting plan.need found plan.last).start) where
+    (ready : Ready o f header rows columns values size plan found) (room : Extent) (e : room ≡ first_fitting plan.need found plan.last) where
   -- the rules have passed
   passed : first_fault (add_rules o f (length header) rows columns (length values) size) ≡ Pass
   passed = (plan_is o f (length header) rows columns (length values) size plan ready.planned).0
@@ -103,35 +105,35 @@ module _ (o : Order) (f header : List ℕ) (rows columns : ℕ) (values : List �
   number_is = ap (λ (p : AddPlan). p.number) (plan_is o f (length header) rows columns (length values) size plan ready.planned).1
 
   -- and the grid begins at the lowest address
-  placed : at ≡ new_address o f header rows columns values
-  placed = e ∙ ready.address
+  placed : room.start ≡ new_address o f header rows columns values
+  placed = ap (λ (x : Extent). x.start) e ∙ ready.address
 
   -- where it has room
-  pub may_write : (length header ≡ 256) × ((length values ≡ rows * columns) × ((rows * columns < 2147483648) × (4 * (at + 64 + rows * columns) ≤ length f)))
+  pub may_write : (length header ≡ 256) × ((length values ≡ rows * columns) × ((rows * columns < 2147483648) × (4 * (room.start + 64 + rows * columns) ≤ length f)))
   may_write =
       let x = add_place o f header rows columns values size passed in
       (passes.asked.whole-header, (passes.asked.all_values, (omega (arith, x.by_last), omega (arith, x.inside, placed))))
 
-  -- the address is below 2 ^ 31
-  pub address_small : at < 2147483648
-  address_small = omega (arith, (add_place o f header rows columns values size passed).by_last, placed)
+  -- the address is a number of 32 bits
+  pub address_small : Fits w32 room.start
+  address_small = record { fits = omega (arith, (add_place o f header rows columns values size passed).by_last, placed) }
 
-  module _ (g : List ℕ) (written : g ≡ sets f (4 * at) (grid_bytes o header rows columns values)) where
+  module _ (g : List ℕ) (written : g ≡ sets f (4 * room.start) (grid_bytes o header rows columns values)) where
     -- the slot is inside the file
     pub slot_inside : 4 * (10 + plan.number) + 4 ≤ length g
     slot_inside =
         omega (
           arith,
-          ap length written ∙ length-sets f (4 * at) (grid_bytes o header rows columns values),
+          ap length written ∙ length-sets f (4 * room.start) (grid_bytes o header rows columns values),
           passes.slot,
           number_is,
           (accepted_slots o f passes.asked.accepted).room,
         )
 
-    module _ (h : List ℕ) (set : h ≡ sets g (4 * (10 + plan.number)) (encode o 4 at)) where
+    module _ (h : List ℕ) (set : h ≡ sets g (4 * (10 + plan.number)) (encode o 4 room.start)) where
       -- the file with the grid in it
       put : h ≡ grid_in o f header rows columns values
-      put = set ∙ set_as o g _ (10 + plan.number) (11 + new_slot o f header rows columns values) at _
+      put = set ∙ set_as o g _ (10 + plan.number) (11 + new_slot o f header rows columns values) room.start _
           (written ∙ ap (λ (k : ℕ). sets f (4 * k) (new_bytes o f header rows columns values)) placed) (omega (arith, number_is)) placed
 
       -- has slots that can be read, and the end of its highest grid is a signed word
@@ -150,8 +152,8 @@ module _ (o : Order) (f header : List ℕ) (rows columns : ℕ) (values : List �
 
         -- and what is answered is what adding says
         pub carried_out : (s : Survey) → s ≡ survey o k
-            → (addition_says (Ok (record { number = plan.number; address = at; stretches = s.count })), k) ≡ add_step o f header rows columns values size
+            → (addition_says (Ok (record { number = plan.number; address = room.start; stretches = s.count })), k) ≡ add_step o f header rows columns values size
         unfolding add_step
         carried_out s surveyed =
-            ap (λ (x : Added). ((gives x, s.count), k)) (added_is o f rows columns s.count plan.number at number_is placed)
+            ap (λ (x : Added). ((gives x, s.count), k)) (added_is o f rows columns s.count plan.number room.start number_is placed)
             ∙ step_pass (first_fault (add_rules o f (length header) rows columns (length values) size)) (added o f rows columns) o f _ passed k left s surveyed

@@ -37,7 +37,7 @@ fn set_next_free(file: &mut [u8], order: Order)
 }
 
 // What the rules of deleting a grid say.
-#[tactic(auto, using(refusal_rules::proofs::Tables::joined_faults), unfolding(refusal_rules::specs::Rules::first_fault, refusal_rules::specs::Rules::first, grid_rules::specs::Rules::wanted_rules, grid_update_rules::specs::Updates::delete_rules))]
+#[tactic(auto, using(refusal_rules::proofs::Tables::joined_faults, grid_update_rules::proofs::Deleting::count_inside), unfolding(refusal_rules::specs::Rules::first_fault, refusal_rules::specs::Rules::first, grid_rules::specs::Rules::wanted_rules, grid_update_rules::specs::Updates::delete_rules))]
 fn delete_verdict(file: &[u8], order: Order, number: u32, size: usize) -> Result<(), Refusal>
     ensures { verdict_of result ≡ first_fault (delete_rules order file.now number size) }
 {
@@ -46,11 +46,11 @@ fn delete_verdict(file: &[u8], order: Order, number: u32, size: usize) -> Result
     check(n as usize + 1 <= size, Refusal::ShortOutput)?;
     check(within(1, n, number), Refusal::NoSuch)?;
     let offset = read_word(order, file, 10 + number as usize);
-    check(!(offset == EMPTY_SLOT), Refusal::Absent)
+    check(offset != EMPTY_SLOT, Refusal::Absent)
 }
 
 // Deletes the grid of a number, with a table of `size` pairs, and answers how many free stretches the file has now. Refused as `grid_updates::delete`.
-#[tactic(auto, unfolding(grid_update_rules::specs::Updates::set_word, grid_update_rules::specs::Updates::without_grid, grid_update_rules::specs::Steps::delete_step))]
+#[tactic(auto, using(grid_update_rules::proofs::Deleting::slot_there, grid_update_rules::proofs::Deleting::emptied_next, grid_update_rules::proofs::Deleting::emptied_survey, grid_update_rules::proofs::Deleting::deleted_says), unfolding(grid_update_rules::specs::Steps::delete_step))]
 pub fn delete_in(file: &mut [u8], order: Order, number: u32, size: usize) -> Result<usize, Refusal>
     ensures { (stretch_says result, file.new) ≡ delete_step order file.old number size }
 {
@@ -76,7 +76,7 @@ fn lowest_empty(file: &[u8], order: Order) -> usize
 }
 
 // What the rules of adding a grid say, for so many header bytes and values.
-#[tactic(auto, using(refusal_rules::proofs::Tables::joined_faults), unfolding(refusal_rules::specs::Rules::first_fault, refusal_rules::specs::Rules::first, grid_update_rules::specs::Updates::add_rules))]
+#[tactic(auto, using(refusal_rules::proofs::Tables::joined_faults, grid_update_rules::proofs::Deleting::count_inside), unfolding(refusal_rules::specs::Rules::first_fault, refusal_rules::specs::Rules::first, grid_update_rules::specs::Updates::add_rules))]
 fn add_verdict(
     file: &[u8],
     order: Order,
@@ -161,7 +161,7 @@ fn write_grid(
 
 // Carries out the plan of an addition, where `found` was found among the free stretches before the last. The caller must make sure that the plan is the one for
 // this file and a table of `size` pairs, and that what was found, or else the last stretch, begins at the lowest address at which the grid has room.
-#[tactic(auto, unfolding(grid_update_rules::specs::Updates::with_grid, grid_update_rules::specs::Updates::grid_put, grid_update_rules::specs::Steps::add_step))]
+#[tactic(auto, using(grid_update_rules::proofs::Plans::slot_inside, grid_update_rules::proofs::Plans::may_set_next, grid_update_rules::proofs::Plans::may_survey, grid_update_rules::proofs::Plans::carried_out))]
 pub fn add_at(
     file: &mut [u8],
     order: Order,

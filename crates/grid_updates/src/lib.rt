@@ -19,7 +19,7 @@ use refusal::check;
 use refusal_rules::Refusal;
 
 // Counts the free stretches of a file, for a table of `size` pairs. Refused as `free_stretches`.
-#[tactic(auto, using(refusal_rules::proofs::Tables::joined_faults), unfolding(refusal_rules::specs::Rules::first_fault, refusal_rules::specs::Rules::first, extent_rules::specs::Steps::survey, grid_update_rules::specs::Updates::stretch_rules, grid_update_rules::specs::Steps::tell_step))]
+#[tactic(auto, using(refusal_rules::proofs::Tables::joined_faults, grid_update_rules::proofs::Deleting::count_inside), unfolding(refusal_rules::specs::Rules::first_fault, refusal_rules::specs::Rules::first, extent_rules::specs::Steps::survey, grid_update_rules::specs::Updates::stretch_rules, grid_update_rules::specs::Steps::tell_step))]
 fn count_stretches(file: &[u8], order: Order, size: usize) -> Result<usize, Refusal>
     ensures { stretch_says result ≡ tell_step order file.now size }
 {
@@ -45,7 +45,12 @@ pub fn free_stretches(file: &[u8], order: Order, table: &mut [Extent]) -> Result
 //
 // Refused by the first fault of the whole file, 1 to 5; then with 10 where the table has fewer than n + 1 places, 7 where there is no such grid, 6 where its slot
 // is empty. A refusal leaves the file and the table as they were.
-pub fn delete(file: &mut [u8], order: Order, number: u32, table: &mut [Extent]) -> Result<usize, Refusal>
+pub fn delete(
+    file: &mut [u8],
+    order: Order,
+    number: u32,
+    table: &mut [Extent],
+) -> Result<usize, Refusal>
     ensures { (says result, (file.new, table.new)) ≡ delete_grid order file.old number table.old }
 {
     let count = delete_in(file, order, number, table.len())?;

@@ -1,12 +1,13 @@
--- `area_places::line_start` meets its contract: the rules that passed give the bounds.
+-- `area_places::line_start` meets its contract: the layout that is within bounds is the one that has the line.
 -- Assumes nothing.
-use mathlib.Core.Path.{sym}
+use mathlib.Core.Path.{sym, ap}
 use native.Mathlib.Omega.{arith}
-use Rattle.refusal_rules.proofs.Tables.{pass_hold}
-use Rattle.area_rules.proofs.Tables.{lines-hold}
+use borrow.Author.Tests.{ltb-true}
+use Rattle.refusal_rules.proofs.Tables.{judge_pass}
+use Rattle.area_rules.specs.declared.AreaLayout.{AreaLayout}
 use Rattle.area_places.proofs.line_start.Goals as goal
 
-pub line_at-requires : goal.line_at-requires
-line_at-requires c =
-    let (bounds, line) = (lines-hold _ _).0 (pass_hold _ (sym c.in_ok-line_verdict.ensures)) in
-    (bounds, omega (arith, line))
+pub line_start-requires : goal.line_start-requires
+line_start-requires c =
+    let line = ltb-true _ _ (judge_pass _ (sym c.in_ok-check.ensures)) in
+    omega (arith, line, ap (λ (l : AreaLayout). l.lines) c.in_ok-bounded.ensures.same)

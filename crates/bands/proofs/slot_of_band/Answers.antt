@@ -6,8 +6,8 @@ use Rattle.refusal_rules.proofs.Tables.{judge_pass}
 use Rattle.area_rules.proofs.Bands.{HasBand, band_exactly}
 use Rattle.bands.proofs.slot_of_band.Goals as goal
 
-has : (c : goal.In_ok-check-2) → let a = c.args in HasBand a.map c.second_map-second.result a.band
-has c = (band_exactly _ _ _).sound (sym c.has_band.ensures ∙ judge_pass _ (sym c.in_ok-check-2.ensures))
+has : (c : goal.In_ok-check-2) → HasBand c.args.layout.map c.second_map-second.result c.args.band
+has c = (band_exactly _ _ _).sound (sym c.has.ensures ∙ judge_pass _ (sym c.in_ok-check-2.ensures))
 
 pub overflow_sub-band : goal.overflow_sub-band
 overflow_sub-band c = (has c).from

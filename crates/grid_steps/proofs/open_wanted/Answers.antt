@@ -24,9 +24,9 @@ module _ (len : ℕ) (w : ℕ → ℕ) (number : ℕ) (accepted : first_fault (g
   range : (1 ≤ number) × (number ≤ w 10)
   range = (within_exactly 1 (w 10) number).sound (judge_pass _ (sym asked))
 
-  -- the word of its offset is inside the file
-  offset_inside : 4 * (10 + number) + 4 ≤ len
-  offset_inside =
+  -- the directory is inside the file, with the next free word
+  directory_inside : 4 * (12 + number) ≤ len
+  directory_inside =
       let room : GridRoom len (w 10) (next_free w) = accepted_room len w ((file_passes len w).0 accepted).head in
       omega (arith, room.after, room.whole, range.1)
 
@@ -38,7 +38,8 @@ module _ (len : ℕ) (w : ℕ → ℕ) (number : ℕ) (accepted : first_fault (g
       omega (arith, grid.inside)
 
 pub read_word-offset-requires : goal.read_word-offset-requires
-read_word-offset-requires c = offset_inside _ _ _ c.requires (rw (c.within.ensures, c.read_word-n.ensures) at c.in_ok-check.ensures)
+read_word-offset-requires c =
+    omega (arith, directory_inside _ _ _ c.requires (rw (c.within.ensures, c.read_word-n.ensures) at c.in_ok-check.ensures))
 
 pub read_word-rows-requires : goal.read_word-rows-requires
 read_word-rows-requires c =

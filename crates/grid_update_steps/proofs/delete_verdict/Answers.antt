@@ -1,4 +1,4 @@
--- `grid_update_steps::delete_verdict` meets its contract: of an accepted file the directory is inside the file, with the slot of each number up to n.
+-- `grid_update_steps::delete_verdict` meets its contract: of an accepted file the slot of each number up to n is inside the file.
 -- Assumes nothing.
 use mathlib.Core.Path.{sym, ◌∙◌}
 use native.Mathlib.Omega.{arith}
@@ -6,9 +6,6 @@ use Rattle.refusal_rules.proofs.Exactness.{within_exactly}
 use Rattle.refusal_rules.proofs.Tables.{judge_pass}
 use Rattle.extent_rules.proofs.Slots.{accepted_slots}
 use Rattle.grid_update_steps.proofs.delete_verdict.Goals as goal
-
-pub read_word-n-requires : goal.read_word-n-requires
-read_word-n-requires c = omega (arith, (accepted_slots c.args.order c.args.file.now (sym c.in_ok-file_verdict.ensures)).room)
 
 pub read_word-offset-requires : goal.read_word-offset-requires
 read_word-offset-requires c =

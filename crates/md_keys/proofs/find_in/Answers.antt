@@ -12,7 +12,7 @@ pub returns-then-is_named : goal.returns-then-is_named
 returns-then-is_named c =
     let l = c.loop-position in
     let named = sym c.is_named.ensures ∙ c.if-is_named.true in
-    sym (name_found _ _ _ _ c.if-name-ne4.false (record { from = l.auto.position; to = c.loop-position-test.true; passes = named; before = l.invariant }))
+    sym (name_found _ _ _ _ c.if-name-ne4.false (record { from = omega arith; to = c.loop-position-test.true; passes = named; before = l.invariant }))
 
 pub returns-else-is_named : goal.returns-else-is_named
 returns-else-is_named c =
