@@ -12,5 +12,5 @@ returns-then-day-days_before c =
     let a = c.args in
     let l = c.loop-month in
     let here : suc (l.month - 1) ≡ l.month = omega arith in
-    let past : a.day ≤ days_before a.leap (suc (l.month - 1)) = rw here (rw c.days_before.ensures at c.if-day-days_before.true) in
+    let past : a.day ≤ days_before a.leap (suc (l.month - 1)) = rw here (omega (arith, c.days_before.ensures)) in
     sym (last_stays a.leap a.day (l.month - 1) 11 (omega arith) past ∙ l.invariant)
