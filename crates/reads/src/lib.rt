@@ -48,6 +48,7 @@ pub fn read_sample(
 }
 
 // The signed word of a point or a field.
+// Not one function with `read_sample`: the two have only the call of `place_in` in common.
 #[tactic(auto, using(value_rules::proofs::Reading::word_inside), unfolding(value_rules::specs::Reading::read_word))]
 fn read_word_of(file: &[u8], layout: Layout, name: ValueName) -> Result<i32, Refusal>
     requires { IsWord name }

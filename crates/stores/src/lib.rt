@@ -23,6 +23,7 @@ fn fits_width(number: u32, width: usize) -> bool
     requires { (1 ≤ width) × (width ≤ 4) }
     ensures { result ≡ ltb number (256 ^ width) }
 {
+    // The bound of each width is written out: a shift that computes it needs a lemma on powers, and is no plainer.
     match width {
         1 => number < 256,
         2 => number < 65536,
