@@ -11,16 +11,19 @@ use calendar_rules::{Date, TimeOfDay};
 use refusal::{and, check, or, within};
 use refusal_rules::Refusal;
 
-// The days of a common year before each of its months. A leap year has one more before each month from March on.
-const DAYS_BEFORE: [u32; 12] = [0, 31, 59, 90, 120, 151, 181, 212, 243, 273, 304, 334];
+// The days of a year before each of its months: of a common year, and then of a leap year.
+const DAYS_BEFORE: [u32; 24] = [
+    0, 31, 59, 90, 120, 151, 181, 212, 243, 273, 304, 334, 0, 31, 60, 91, 121, 152, 182, 213, 244,
+    274, 305, 335,
+];
 
 // The days of a year before a month, which is counted from 0.
 fn days_before(leap: bool, month: usize) -> u32
     requires { month < 12 }
     ensures { result ≡ days_before leap month }
 {
-    if leap && 2 <= month {
-        DAYS_BEFORE[month] + 1
+    if leap {
+        DAYS_BEFORE[12 + month]
     } else {
         DAYS_BEFORE[month]
     }

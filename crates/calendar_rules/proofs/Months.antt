@@ -1,45 +1,46 @@
 -- Laws of the months of a year: the table of days before each month, and the month in which a day of the year lies.
 -- Assumes nothing.
-use mathlib.Core.Path.{◌≡◌, refl, sym, ◌∙◌}
+use mathlib.Core.Path.{◌≡◌, refl, sym, ap₂, ◌∙◌}
 use mathlib.Core.Bool.{Bool, true, false}
 use mathlib.Core.Logic.{⊎_elim}
 use mathlib.Core.List.{List, [], ◌∷◌}
-use Prim.Native.Nat.{ℕ, zero, suc, ◌+◌, ◌-◌, ◌≤◌, ◌<◌}
+use Prim.Native.Nat.{ℕ, zero, suc, ◌+◌, ◌-◌, ◌%◌, ◌≤◌, ◌<◌}
 use native.Mathlib.Nat.{eq-or-lt_of_le, le_of_suc-le-suc}
 use native.Mathlib.Omega.{arith}
 use lib.Dec.{leb, ltb, eqb}
 use lib.ListN.{get_or}
-use borrow.Author.Tests.{eqb-true, lt-ltb, le-ltb, ltb-true, ltb-false}
+use borrow.Author.Tests.{eqb-true, le-leb, lt-leb, lt-ltb, le-ltb, ltb-true, ltb-false}
 use Rattle.lists.specs.Choices.{pick}
 use Rattle.lists.proofs.Every.{every_at}
 use Rattle.calendar_rules.specs.Gregorian.{days_before, year_length, last_before}
 
 -- ---- the table
 
--- the table of the code, of a common year
+-- the table of the code: a common year, and then a leap year
 abbrev pub days_table : List ℕ
-days_table = 0 ∷ 31 ∷ 59 ∷ 90 ∷ 120 ∷ 151 ∷ 181 ∷ 212 ∷ 243 ∷ 273 ∷ 304 ∷ 334 ∷ []
+days_table =
+    0 ∷ 31 ∷ 59 ∷ 90 ∷ 120 ∷ 151 ∷ 181 ∷ 212 ∷ 243 ∷ 273 ∷ 304 ∷ 334
+    ∷ 0 ∷ 31 ∷ 60 ∷ 91 ∷ 121 ∷ 152 ∷ 182 ∷ 213 ∷ 244 ∷ 274 ∷ 305 ∷ 335
+    ∷ []
 
--- the day that a leap year has more before a month, from March on; months are counted from 0
-abbrev pub leap_day : ℕ → ℕ
-leap_day month = pick (leb 2 month) 1 0
+-- its rule: entry k holds the days before the month k % 12, of a common year below entry 12 and of a leap year from there on. It is
+-- one test, computed over the whole table.
+right_entry : ℕ → ℕ → Bool
+right_entry k x = eqb x (days_before (leb 12 k) (k % 12))
 
--- its rules: entry k holds the days before the month k of a common year, and of a leap year with that year's day. Each is one test, computed over the
--- whole table.
-common_right : ℕ → ℕ → Bool
-common_right k x = eqb x (days_before false k)
-
-leap-right : ℕ → ℕ → Bool
-leap-right k x = eqb (x + leap_day k) (days_before true k)
+table_rule_lem : (k : ℕ) → k < 24 → get_or days_table k 0 ≡ days_before (leb 12 k) (k % 12)
+unfolding right_entry days_before
+table_rule_lem k h = eqb-true (get_or days_table k 0) (days_before (leb 12 k) (k % 12)) (every_at right_entry days_table 0 refl k h)
 
 pub common_entry : (month : ℕ) → month < 12 → get_or days_table month 0 ≡ days_before false month
-unfolding common_right days_before
-common_entry month h = eqb-true (get_or days_table month 0) (days_before false month) (every_at common_right days_table 0 refl month h)
+common_entry month h =
+    let e : month % 12 ≡ month = omega arith in
+    table_rule_lem month (omega arith) ∙ ap₂ days_before (lt-leb 12 month h) e
 
-pub leap-entry : (month : ℕ) → month < 12 → get_or days_table month 0 + leap_day month ≡ days_before true month
-unfolding leap-right days_before
+pub leap-entry : (month : ℕ) → month < 12 → get_or days_table (12 + month) 0 ≡ days_before true month
 leap-entry month h =
-    eqb-true (get_or days_table month 0 + leap_day month) (days_before true month) (every_at leap-right days_table 0 refl month h)
+    let e : (12 + month) % 12 ≡ month = omega arith in
+    table_rule_lem (12 + month) (omega arith) ∙ ap₂ days_before (le-leb 12 (12 + month) (omega arith)) e
 
 -- ---- the days before a month
 

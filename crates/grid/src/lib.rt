@@ -6,13 +6,12 @@ ghost use Rattle.endian_rules.specs.Words.{word_at};
 ghost use Rattle.refusal_rules.specs.Rules.{first_fault, Pass};
 ghost use Rattle.grid_rules.specs.Opening.{same_grid, open_grid};
 ghost use Rattle.grid_rules.specs.Rules.{shares, slots_rules, slot_rules, grid_file_rules};
-ghost use Rattle.grid_rules.specs.Accepts.{GridRoom};
 ghost use Rattle.refusal_rules.specs.Answers.{says, verdict_of};
 
 use endian_rules::Order;
 use endian_steps::read_word;
 use grid_rules::{EMPTY_SLOT, GridLayout};
-use grid_steps::{head_verdict, meets_slot, open_wanted, own_verdict};
+use grid_steps::{Directory, head_verdict, open_wanted};
 use refusal::check;
 use refusal_rules::Refusal;
 
@@ -23,22 +22,14 @@ pub fn same_grid(a: GridLayout, b: GridLayout) -> bool
     a == b
 }
 
-// Whether one of the first k slots has a word from `low` up to `high`. Their checks must have passed.
+// Whether one of the first k slots of a directory has a word from `low` up to `high`. Their checks must have passed.
 #[tactic(auto, unfolding(grid_rules::specs::Rules::shares))]
-fn shares_word(
-    file: &[u8],
-    order: Order,
-    n: usize,
-    next: usize,
-    k: usize,
-    low: usize,
-    high: usize,
-) -> bool
-    requires { GridRoom (length file.now) n next × ((k < n) × (first_fault (slots_rules (word_at order file.now) n next k) ≡ Pass)) }
-    ensures { result ≡ shares (word_at order file.now) low high k }
+fn shares_word(directory: Directory, k: usize, low: usize, high: usize) -> bool
+    requires { (k < directory.grids) × (first_fault (slots_rules (word_at directory.order directory.file.now) directory.grids directory.next k) ≡ Pass) }
+    ensures { result ≡ shares (word_at directory.entry.order directory.entry.file.now) low high k }
 {
     for j in 0..k {
-        if meets_slot(file, order, n, next, j, low, high) {
+        if directory.meets_slot(j, low, high) {
             return true;
         }
     }
@@ -47,29 +38,28 @@ fn shares_word(
 
 // What the checks of slot k say. Those of the slots before it must have passed.
 #[tactic(auto, using(refusal_rules::proofs::Tables::joined_faults), unfolding(refusal_rules::specs::Rules::first_fault, refusal_rules::specs::Rules::first, grid_rules::specs::Rules::slot_rules, grid_rules::specs::Rules::overlap_rule))]
-fn slot_verdict(file: &[u8], order: Order, n: usize, next: usize, k: usize) -> Result<(), Refusal>
-    requires { GridRoom (length file.now) n next × ((k < n) × (first_fault (slots_rules (word_at order file.now) n next k) ≡ Pass)) }
-    ensures { verdict_of result ≡ first_fault (slot_rules (word_at order file.now) n next k) }
+fn slot_verdict(directory: Directory, k: usize) -> Result<(), Refusal>
+    requires { (k < directory.grids) × (first_fault (slots_rules (word_at directory.order directory.file.now) directory.grids directory.next k) ≡ Pass) }
+    ensures { verdict_of result ≡ first_fault (slot_rules (word_at directory.entry.order directory.entry.file.now) directory.entry.grids directory.entry.next k) }
 {
-    let word = read_word(order, file, 11 + k);
+    let word = read_word(directory.order, directory.file, 11 + k);
     if word == EMPTY_SLOT {
         return Ok(());
     }
-    own_verdict(file, order, n, next, k)?;
+    directory.own_verdict(k)?;
     let low = word as usize;
-    let high = low + 64 + read_word(order, file, low) as usize;
-    let overlaps = shares_word(file, order, n, next, k, low, high);
+    let high = low + 64 + read_word(directory.order, directory.file, low) as usize;
+    let overlaps = shares_word(directory, k, low, high);
     check(!overlaps, Refusal::Misplaced(11 + k))
 }
 
-// What the checks of all n slots say, slot by slot.
+// What the checks of all slots of a directory say, slot by slot.
 #[tactic(auto, unfolding(grid_rules::specs::Rules::slots_rules, refusal_rules::specs::Rules::first_fault))]
-fn slots_verdict(file: &[u8], order: Order, n: usize, next: usize) -> Result<(), Refusal>
-    requires { GridRoom (length file.now) n next }
-    ensures { verdict_of result ≡ first_fault (slots_rules (word_at order file.now) n next n) }
+fn slots_verdict(directory: Directory) -> Result<(), Refusal>
+    ensures { verdict_of result ≡ first_fault (slots_rules (word_at directory.entry.order directory.entry.file.now) directory.entry.grids directory.entry.next directory.entry.grids) }
 {
-    for k in 0..n {
-        slot_verdict(file, order, n, next, k)?;
+    for k in 0..directory.grids {
+        slot_verdict(directory, k)?;
     }
     Ok(())
 }
@@ -81,9 +71,14 @@ pub fn file_verdict(file: &[u8], order: Order) -> Result<(), Refusal>
     ensures { verdict_of result ≡ first_fault (grid_file_rules (length file.now) (word_at order file.now)) }
 {
     head_verdict(file, order)?;
-    let n = read_word(order, file, 10) as usize;
-    let next = read_word(order, file, 11 + n) as usize;
-    slots_verdict(file, order, n, next)
+    let grids = read_word(order, file, 10) as usize;
+    let next = read_word(order, file, 11 + grids) as usize;
+    slots_verdict(Directory {
+        file,
+        order,
+        grids,
+        next,
+    })
 }
 
 // Opens the grid of a number, counted from 1, in a byte order. Refused by the first fault of the whole file, then with 7 where there is no such

@@ -69,48 +69,45 @@ fn size_verdict(
     check(end <= next, Refusal::Misplaced(11 + k))
 }
 
-// What the checks of slot k's grid say that look at no other slot. The slot is one that is not empty; an empty one is a fault of its offset. n and
-// `next` are the number of grids and the next free word. The caller must make sure that the checks before the slots have passed.
-#[tactic(auto, using(refusal_rules::proofs::Tables::joined_faults), unfolding(grid_rules::specs::Rules::header_rules, grid_rules::specs::Rules::own_rules, refusal_rules::specs::Rules::first_fault, refusal_rules::specs::Rules::first))]
-pub fn own_verdict(
-    file: &[u8],
-    order: Order,
-    n: usize,
-    next: usize,
-    k: usize,
-) -> Result<(), Refusal>
-    requires { GridRoom (length file.now) n next × (k < n) }
-    ensures { verdict_of result ≡ first_fault (own_rules (word_at order file.now) n next k) }
-{
-    let word = read_word(order, file, 11 + k);
-    let offset = word as usize;
-    check(at_least(12 + n, word), Refusal::Misplaced(11 + k))?;
-    check(offset + 64 <= next, Refusal::Misplaced(11 + k))?;
-    size_verdict(file, order, next, k, offset)
+// The directory of a GRID file whose checks before the slots have passed: its number of grids, and its next free word.
+#[derive(Clone, Copy)]
+pub struct Directory<'a> {
+    pub file: &'a [u8],
+    pub order: Order,
+    pub grids: usize,
+    pub next: usize,
+    pub ghost room: { GridRoom (length file.now) grids next },
 }
 
-// Whether the grid of slot j has a word from `low` up to `high`; an empty slot has none. The caller must make sure that the checks of the slot
-// have passed.
-#[tactic(auto, unfolding(grid_rules::specs::Rules::meets))]
-pub fn meets_slot(
-    file: &[u8],
-    order: Order,
-    n: usize,
-    next: usize,
-    j: usize,
-    low: usize,
-    high: usize,
-) -> bool
-    requires { GridRoom (length file.now) n next × ((j < n) × (first_fault (slot_rules (word_at order file.now) n next j) ≡ Pass)) }
-    ensures { result ≡ meets (word_at order file.now) low high j }
-{
-    let word = read_word(order, file, 11 + j);
-    if word == EMPTY_SLOT {
-        return false;
+impl<'a> Directory<'a> {
+    // What the checks of slot k's grid say that look at no other slot. The slot is one that is not empty; an empty one is a fault of its offset.
+    #[tactic(auto, using(refusal_rules::proofs::Tables::joined_faults), unfolding(grid_rules::specs::Rules::header_rules, grid_rules::specs::Rules::own_rules, refusal_rules::specs::Rules::first_fault, refusal_rules::specs::Rules::first))]
+    pub fn own_verdict(self, k: usize) -> Result<(), Refusal>
+        requires { k < self.grids }
+        ensures { verdict_of result ≡ first_fault (own_rules (word_at self.entry.order self.entry.file.now) self.entry.grids self.entry.next k) }
+    {
+        let word = read_word(self.order, self.file, 11 + k);
+        let offset = word as usize;
+        check(at_least(12 + self.grids, word), Refusal::Misplaced(11 + k))?;
+        check(offset + 64 <= self.next, Refusal::Misplaced(11 + k))?;
+        size_verdict(self.file, self.order, self.next, k, offset)
     }
-    let offset = word as usize;
-    let size = read_word(order, file, offset);
-    and(low < offset + 64 + size as usize, offset < high)
+
+    // Whether the grid of slot j has a word from `low` up to `high`; an empty slot has none. The caller must make sure that the checks of the slot
+    // have passed.
+    #[tactic(auto, unfolding(grid_rules::specs::Rules::meets))]
+    pub fn meets_slot(self, j: usize, low: usize, high: usize) -> bool
+        requires { (j < self.grids) × (first_fault (slot_rules (word_at self.order self.file.now) self.grids self.next j) ≡ Pass) }
+        ensures { result ≡ meets (word_at self.entry.order self.entry.file.now) low high j }
+    {
+        let word = read_word(self.order, self.file, 11 + j);
+        if word == EMPTY_SLOT {
+            return false;
+        }
+        let offset = word as usize;
+        let size = read_word(self.order, self.file, offset);
+        and(low < offset + 64 + size as usize, offset < high)
+    }
 }
 
 // Opens a grid of a file whose checks have passed, which the caller must make sure of. Refused with 7 for a grid number that the file does not

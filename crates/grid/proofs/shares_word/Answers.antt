@@ -7,8 +7,8 @@ use Rattle.grid.proofs.shares_word.Goals as goal
 
 pub meets_slot-requires : goal.meets_slot-requires
 meets_slot-requires c =
-    let passed = (each_passes _ _ _ _).0 c.requires.1.1 c.loop-j.j c.loop-j-test.true in
-    (c.requires.0, (omega (arith, c.loop-j-test.true, c.requires.1.0), passed))
+    let passed = (each_passes _ _ _ _).0 c.requires.1 c.loop-j.j c.loop-j-test.true in
+    (omega (arith, c.loop-j-test.true, c.requires.0), passed)
 
 pub returns-then-meets_slot : goal.returns-then-meets_slot
 returns-then-meets_slot c =

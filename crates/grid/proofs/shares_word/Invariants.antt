@@ -7,4 +7,4 @@ use Rattle.grid_rules.specs.Rules.{shares}
 use Rattle.grid.proofs.shares_word.Given as goal
 
 abbrev pub invariant-loop-j : goal.invariant-loop-j
-invariant-loop-j l = shares (word_at l.order l.file) l.low l.high l.j ≡ false
+invariant-loop-j l = shares (word_at l.directory.order l.directory.file.now) l.low l.high l.j ≡ false

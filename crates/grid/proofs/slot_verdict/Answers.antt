@@ -7,4 +7,4 @@ use Rattle.grid.proofs.slot_verdict.Goals as goal
 
 pub read_word-requires : goal.read_word-requires
 read_word-requires c =
-    omega (arith, own_end _ _ _ _ (sym c.in_ok-own_verdict.ensures), c.requires.0.whole, c.read_word-word.ensures)
+    omega (arith, own_end _ _ _ _ (sym c.in_ok-own_verdict.ensures), c.args.directory.room.whole, c.read_word-word.ensures)

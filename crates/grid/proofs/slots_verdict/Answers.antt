@@ -10,7 +10,7 @@ use Rattle.grid.proofs.slots_verdict.Goals as goal
 pub returns-in_err-slot_verdict : goal.returns-in_err-slot_verdict
 returns-in_err-slot_verdict c =
     let p = err_from_is_err_and c.from_residual.result c.from_residual.ensures.1 in
-    rw (p.1, p.2) (sym (fault_at _ _ _ c.loop-k.k c.args.n _ c.loop-k-test.true c.loop-k.invariant (sym c.in_err-slot_verdict.ensures)))
+    rw (p.1, p.2) (sym (fault_at _ _ _ c.loop-k.k c.args.directory.grids _ c.loop-k-test.true c.loop-k.invariant (sym c.in_err-slot_verdict.ensures)))
 
 pub loop-k-preserved : goal.loop-k-preserved
 loop-k-preserved c =

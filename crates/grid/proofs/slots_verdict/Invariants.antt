@@ -7,4 +7,4 @@ use Rattle.grid_rules.specs.Rules.{slots_rules}
 use Rattle.grid.proofs.slots_verdict.Given as goal
 
 abbrev pub invariant-loop-k : goal.invariant-loop-k
-invariant-loop-k l = first_fault (slots_rules (word_at l.order l.file) l.n l.next l.k) ≡ Pass
+invariant-loop-k l = first_fault (slots_rules (word_at l.directory.order l.directory.file.now) l.directory.grids l.directory.next l.k) ≡ Pass
