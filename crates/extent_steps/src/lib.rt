@@ -13,7 +13,7 @@ use endian_steps::read_word;
 use extent_rules::{Extent, LAST_END, Survey};
 use grid_rules::EMPTY_SLOT;
 
-// A GRID file of which the directory is inside it, and each grid, and the byte order in which its words are read.
+// A GRID file that has all words of its directory and of each of its grids, and the byte order in which its words are read.
 #[derive(Clone, Copy)]
 pub struct GridSlots<'a> {
     pub file: &'a [u8],
@@ -43,8 +43,7 @@ impl<'a> GridSlots<'a> {
         }
     }
 
-    // The end of the highest grid, or 12 + n where there is none: what its next free word is after a grid was deleted or
-    // added.
+    // The end of the highest grid, or 12 + n where there is none: what the next free word is after a grid was deleted or added.
     #[tactic(auto, unfolding(extent_rules::specs::Stretches::highest_end))]
     pub fn highest_end(self) -> usize
         ensures { result ≡ highest_end (word_at self.entry.order self.entry.file.now) (first_word (word_at self.entry.order self.entry.file.now)) (word_at self.entry.order self.entry.file.now 10) }
@@ -131,7 +130,7 @@ pub fn first_fitting(need: usize, found: Extent, e: Extent) -> Extent
     }
 }
 
-// A GRID file that is accepted in a byte order, and that order.
+// A GRID file whose checks have all passed, and the byte order in which its words are read.
 #[derive(Clone, Copy)]
 pub struct AcceptedFile<'a> {
     pub file: &'a [u8],
@@ -160,8 +159,8 @@ impl<'a> AcceptedFile<'a> {
         at
     }
 
-    // The first run of free words behind an extent; no words, at the number of whole words, where there is none. The caller must make sure
-    // that the extent is inside the file.
+    // The first run of free words behind an extent; no words, at the number of whole words, where there is none. The caller must make sure that the
+    // extent is inside the file.
     #[tactic(auto, using(extent_rules::proofs::Slots::accepted_slots))]
     pub fn run_after(self, e: Extent) -> Extent
         requires { e.start + e.length ≤ length self.file.now / 4 }

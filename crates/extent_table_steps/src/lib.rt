@@ -13,6 +13,7 @@ use extent_steps::{AcceptedFile, directory_extent, first_fitting};
 
 // Fills the first places of a table with the first free stretches of a file, in address order; places past them stay. The caller must make sure that the table
 // has so many places, and that the file is accepted unless there are none to fill.
+// Not an `AcceptedFile` as a parameter: it would ask that a file is accepted of which no stretch is wanted.
 #[tactic(auto, unfolding(extent_rules::specs::Steps::nth_run, lists::specs::Lists::list_of))]
 pub fn fill<'t, 'f>(table: &'t mut [Extent], file: &'f [u8], order: Order, count: usize)
     requires { (count ≤ length table.old) × (0 < count → GridAccepted order file.now) }

@@ -25,7 +25,7 @@ use refusal::{check, within};
 use refusal_rules::Refusal;
 
 // Sets the next free word to the end of the highest grid, or to 12 + n where there is none. The directory must be inside the file, and each grid, and the end must
-// be a signed word.
+// be a signed word. Not a method of `GridSlots`, which reads a file: here the file is changed.
 #[tactic(auto, unfolding(grid_update_rules::specs::Updates::next_free_set, grid_update_rules::specs::Updates::set_word))]
 fn set_next_free(file: &mut [u8], order: Order)
     requires { SlotsInside (length file.old) (word_at order file.old) × (highest_end (word_at order file.old) (first_word (word_at order file.old)) (word_at order file.old 10) < 2147483648) }
