@@ -11,7 +11,7 @@ ghost use Rattle.refusal_rules.specs.Rules.{first_fault};
 ghost use Rattle.extent_rules.specs.Stretches.{first_word, highest_end};
 ghost use Rattle.extent_rules.specs.Steps.{SlotsInside};
 ghost use Rattle.grid_update_rules.specs.Updates.{next_free_set, delete_rules, lowest_empty, add_rules, grid_bytes};
-ghost use Rattle.grid_update_rules.specs.Steps.{stretch_says, delete_step, add_plan, addition_says, add_step, Ready};
+ghost use Rattle.grid_update_rules.specs.Steps.{stretch_says, delete_step, add_plan, addition_says, add_step, Ready, ReadyPlan};
 ghost use Rattle.refusal_rules.specs.Answers.{says, verdict_of};
 
 use endian_rules::Order;
@@ -162,10 +162,10 @@ fn write_grid(
     write_values(file, order, 4 * at + 256, values);
 }
 
-// Carries out the plan of an addition, where `found` was found among the free stretches before the last. The caller must make sure that the plan is the one for
+// Carries out the plan of an addition that its rules allow, where `found` was found among the free stretches before the last. The caller must make sure that the plan is the one for
 // this file and a table of `size` pairs, and that what was found, or else the last stretch, begins at the lowest address at which the grid has room.
 #[tactic(auto, using(grid_update_rules::proofs::Plans::slot_inside, grid_update_rules::proofs::Plans::may_set_next, grid_update_rules::proofs::Plans::may_survey, grid_update_rules::proofs::Plans::carried_out))]
-pub fn add_at(
+fn carry_out(
     file: &mut [u8],
     order: Order,
     header: &[u8],
@@ -176,7 +176,7 @@ pub fn add_at(
     plan: AddPlan,
     found: Extent,
 ) -> Added
-    requires { Ready order file.old header.now rows columns values.now size plan found }
+    requires { ReadyPlan order file.old header.now rows columns values.now size plan found }
     ensures { (addition_says (Ok result), file.new) ≡ add_step order file.old header.now rows columns values.now size }
 {
     let at = first_fitting(plan.need, found, plan.last).start;
@@ -189,4 +189,26 @@ pub fn add_at(
         address: at,
         stretches: accepted.survey_free().count,
     }
+}
+
+// Carries out the plan of an addition, where `found` was found among the free stretches before the last. The caller must make sure that the plan is the one for
+// this file and a table of `size` pairs, and that what was found, or else the last stretch, begins at the lowest address at which the grid has room. Nothing is
+// written where the plan is refused.
+#[tactic(auto, unfolding(grid_update_rules::specs::Steps::add_step))]
+pub fn add_at(
+    file: &mut [u8],
+    order: Order,
+    header: &[u8],
+    rows: u32,
+    columns: u32,
+    values: &[i32],
+    size: usize,
+    plan: Result<AddPlan, Refusal>,
+    found: Extent,
+) -> Result<Added, Refusal>
+    requires { Ready order file.old header.now rows columns values.now size plan found }
+    ensures { (addition_says result, file.new) ≡ add_step order file.old header.now rows columns values.now size }
+{
+    let plan = plan?;
+    Ok(carry_out(file, order, header, rows, columns, values, size, plan, found))
 }

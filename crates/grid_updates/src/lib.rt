@@ -96,9 +96,9 @@ pub fn add(
         columns,
         values,
         table.len(),
-        plan,
+        Ok(plan),
         found,
-    );
+    )?;
     fill(table, file, order, added.stretches);
     Ok(added)
 }

@@ -104,28 +104,16 @@ fn values_from(first: u32) -> [i32; 100] {
     values
 }
 
-// Adds a grid: `add ROWS COLUMNS FIRST VALUES BYTES`, with so many values, at most 100, which are FIRST, FIRST + 1 and so on, and with a header of so many bytes, at most
-// 300, of which byte i is i + 1 modulo 256. Adds none where there are fewer values or bytes.
-fn add_grid(rt: &impl Print, file: &mut [u8], order: Order, n: Numbers) -> io::Result<()> {
+// Adds a grid with the first bytes of a header and the first of some values: so many values, at most 100, which are the third number, one more and so on, and so
+// many bytes, at most 300, of which byte i is i + 1 modulo 256. Adds none where there are fewer values or bytes.
+fn add_made<F: FnOnce(&[u8], &[i32]) -> io::Result<()>>(n: Numbers, add: F) -> io::Result<()>
+    requires { F.IsAlwaysCallable add }
+{
     if let (Some(header), Some(values)) = (
         made_header().get(..n.e as usize),
         values_from(n.c).get(..n.d as usize),
     ) {
-        say_with_stretches(rt, add_with_table(file, order, header, n.a, n.b, values))?;
-    }
-    Ok(())
-}
-
-// Adds a grid as `add_grid` does, with a short table: `add-short ROWS COLUMNS FIRST VALUES BYTES`.
-fn add_short(rt: &impl Print, file: &mut [u8], order: Order, n: Numbers) -> io::Result<()> {
-    if let (Some(header), Some(values)) = (
-        made_header().get(..n.e as usize),
-        values_from(n.c).get(..n.d as usize),
-    ) {
-        say_with_places(
-            rt,
-            add_with_given_table(file, order, header, n.a, n.b, values, SHORT_TABLE),
-        )?;
+        add(header, values)?;
     }
     Ok(())
 }
@@ -190,8 +178,15 @@ pub fn change(
 ) -> io::Result<()> {
     match call {
         PlainCall::Delete => say_with_stretches(rt, delete_with_table(file, order, n.a)),
-        PlainCall::Add => add_grid(rt, file, order, n),
-        PlainCall::AddShort => add_short(rt, file, order, n),
+        PlainCall::Add => add_made(n, |header, values| {
+            say_with_stretches(rt, add_with_table(file, order, header, n.a, n.b, values))
+        }),
+        PlainCall::AddShort => add_made(n, |header, values| {
+            say_with_places(
+                rt,
+                add_with_given_table(file, order, header, n.a, n.b, values, SHORT_TABLE),
+            )
+        }),
         PlainCall::DeleteShort => say_with_places(
             rt,
             delete_with_given_table(file, order, n.a, SHORT_TABLE),
