@@ -1,4 +1,4 @@
--- `extent_steps::has_room` meets its contract: the loop is at a run of some number, each run before it has words, and the words to be placed fit into none of
+-- `extent_steps::AcceptedFile::has_room` meets its contract: the loop is at a run of some number, each run before it has words, and the words to be placed fit into none of
 -- those.
 -- Assumes nothing.
 use mathlib.Core.Path.{◌≡◌}
@@ -10,7 +10,7 @@ use Rattle.endian_rules.specs.declared.Order.{Order}
 use Rattle.extent_rules.specs.Rooms.{fits_in}
 use Rattle.extent_rules.specs.Steps.{nth_run}
 use Rattle.extent_rules.specs.declared.Extent.{Extent}
-use Rattle.extent_steps.proofs.has_room.Given as goal
+use Rattle.extent_steps.proofs.AcceptedFile.has_room.Given as goal
 
 -- what is known where the loop is at an extent: it is run i + 1
 pub record At (o : Order) (f : List ℕ) (need : ℕ) (e : Extent) (i : ℕ) : Type 0 where
@@ -19,7 +19,7 @@ pub record At (o : Order) (f : List ℕ) (need : ℕ) (e : Extent) (i : ℕ) : T
   pub none : (j : ℕ) → j < i → fits_in need (nth_run o f (suc j)) ≡ false
 
 abbrev pub invariant-loop-e : goal.invariant-loop-e
-invariant-loop-e l = (i : ℕ) × At l.order l.file l.need l.e i
+invariant-loop-e l = (i : ℕ) × At l.self.order l.self.file.now l.need l.e i
 
 abbrev pub decreases-loop-e : goal.decreases-loop-e
-decreases-loop-e l = length l.file / 4 - l.e.start
+decreases-loop-e l = length l.self.file.now / 4 - l.e.start
