@@ -210,5 +210,7 @@ pub fn add_at(
     ensures { (addition_says result, file.new) ≡ add_step order file.old header.now rows columns values.now size }
 {
     let plan = plan?;
-    Ok(carry_out(file, order, header, rows, columns, values, size, plan, found))
+    Ok(carry_out(
+        file, order, header, rows, columns, values, size, plan, found,
+    ))
 }
