@@ -1,20 +1,18 @@
 // AREA files, images: opening a file, and comparing layouts.
 #![tactic(auto)]
 
-ghost use Rattle.std.specs.Prelude.{◌≡◌, ◌≤◌, ◌++◌, length};
-ghost use Rattle.refusal_rules.specs.Tests.{same_numbers};
+ghost use Rattle.std.specs.Prelude.{◌≡◌, ◌≤◌, length};
 ghost use Rattle.area_rules.specs.Rules.{directory_of, word_in};
-ghost use Rattle.area_rules.specs.Opening.{area_layout_of, area_says, open_area_words, open_area_told, open_area, flag_number, prefix_numbers, block_numbers, same_area};
+ghost use Rattle.area_rules.specs.Opening.{area_layout_of, open_area_words, open_area_told, open_area, same_area};
+ghost use Rattle.refusal_rules.specs.Answers.{says};
 
 use area_directory::word_verdict;
-use area_rules::{AreaLayout, AreaOpening};
+use area_rules::AreaLayout;
 use bands::second_map;
-use endian::order_number;
 use endian_rules::Order;
 use endian_steps::read_word;
 use prefix_lengths::padding_length;
-use refusal::{and, equal_and};
-use refusal_rules::{NO_BYTE_ORDER, Refusal, SHORT_FILE, Verdict};
+use refusal_rules::Refusal;
 
 // The 64 words of a directory, read once in a byte order. Every rule is applied to them, and not to the file. W k, counted from 1, is
 // words[k - 1].
@@ -24,10 +22,8 @@ fn read_directory(order: Order, file: &[u8]) -> [u32; 64]
     ensures { result ≡ directory_of order file.now }
 {
     let mut words = [0u32; 64];
-    let mut i: usize = 0;
-    while i < 64 {
-        words[i] = read_word(order, file, i);
-        i += 1;
+    for (i, word) in words.iter_mut().enumerate() {
+        *word = read_word(order, file, i);
     }
     words
 }
@@ -40,7 +36,7 @@ fn layout_of_words(told: usize, order: Order, words: &[u32; 64]) -> AreaLayout
     let map2 = second_map(words[13], words[19]);
     let padding = padding_length(words[35] == 0, words[48], words[49], words[50]);
     AreaLayout {
-        order: order,
+        order,
         length: told,
         lines: words[8],
         elements: words[9],
@@ -48,13 +44,13 @@ fn layout_of_words(told: usize, order: Order, words: &[u32; 64]) -> AreaLayout
         bands: words[13],
         prefix: words[14],
         map: words[18],
-        map2: map2,
+        map2,
         data_start: words[33],
         nav: words[34],
         documentation: words[48],
         calibration: words[49],
         band_list: words[50],
-        padding: padding,
+        padding,
         aux: words[59],
         cal: words[62],
         cards: words[63],
@@ -64,19 +60,17 @@ fn layout_of_words(told: usize, order: Order, words: &[u32; 64]) -> AreaLayout
 
 // Opens by the words of a directory, where W2 reads 4 in this order.
 #[tactic(auto, unfolding(area_rules::specs::Opening::open_area_words))]
-fn open_words(told: usize, order: Order, words: &[u32; 64]) -> AreaOpening
-    ensures { area_says result ≡ open_area_words order told (word_in words.now) }
+fn open_words(told: usize, order: Order, words: &[u32; 64]) -> Result<AreaLayout, Refusal>
+    ensures { says result ≡ open_area_words order told (word_in words.now) }
 {
-    match word_verdict(told, words) {
-        Verdict::Fault(refusal) => AreaOpening::Refused(refusal),
-        Verdict::Pass => AreaOpening::Opened(layout_of_words(told, order, words)),
-    }
+    word_verdict(told, words)?;
+    Ok(layout_of_words(told, order, words))
 }
 
 // Opens by the bytes of a directory, where W2 reads 4 in this order.
-fn open_ordered(told: usize, order: Order, bytes: &[u8]) -> AreaOpening
+fn open_ordered(told: usize, order: Order, bytes: &[u8]) -> Result<AreaLayout, Refusal>
     requires { 256 ≤ length bytes.now }
-    ensures { area_says result ≡ open_area_words order told (word_in (directory_of order bytes.now)) }
+    ensures { says result ≡ open_area_words order told (word_in (directory_of order bytes.now)) }
 {
     let words = read_directory(order, bytes);
     open_words(told, order, &words)
@@ -86,20 +80,12 @@ fn open_ordered(told: usize, order: Order, bytes: &[u8]) -> AreaOpening
 // and place, by the first rule that fails: 1 where the file, or what is at hand, is shorter than 256 bytes, 2 at 2 where word 2 reads 4 in neither
 // order, 3 at a count outside its bounds, 4 at a word unequal to its rule, 5 at the start of a part that would be outside the file or over another
 // part.
-pub fn open_told(told: usize, directory: &[u8]) -> AreaOpening
-    ensures { area_says result ≡ open_area_told told directory.now }
+#[tactic(auto, using(area_rules::proofs::Directory::short_file, area_rules::proofs::Directory::short_directory, area_rules::proofs::Directory::opens_big, area_rules::proofs::Directory::opens_little, area_rules::proofs::Directory::opens_neither))]
+pub fn open_told(told: usize, directory: &[u8]) -> Result<AreaLayout, Refusal>
+    ensures { says result ≡ open_area_told told directory.now }
 {
-    if told < 256 {
-        return AreaOpening::Refused(Refusal {
-            number: SHORT_FILE,
-            place: 0,
-        });
-    }
-    if directory.len() < 256 {
-        return AreaOpening::Refused(Refusal {
-            number: SHORT_FILE,
-            place: 0,
-        });
+    if told < 256 || directory.len() < 256 {
+        return Err(Refusal::ShortFile);
     }
     if read_word(Order::Big, directory, 1) == 4 {
         return open_ordered(told, Order::Big, directory);
@@ -107,71 +93,20 @@ pub fn open_told(told: usize, directory: &[u8]) -> AreaOpening
     if read_word(Order::Little, directory, 1) == 4 {
         return open_ordered(told, Order::Little, directory);
     }
-    AreaOpening::Refused(Refusal {
-        number: NO_BYTE_ORDER,
-        place: 2,
-    })
+    Err(Refusal::NoByteOrder)
 }
 
 // Opens an AREA file, in the byte order in which word 2 reads 4. Refused as `open_told` at the file's own length.
 #[tactic(auto, unfolding(area_rules::specs::Opening::open_area))]
-pub fn open(file: &[u8]) -> AreaOpening
-    ensures { area_says result ≡ open_area file.now }
+pub fn open(file: &[u8]) -> Result<AreaLayout, Refusal>
+    ensures { says result ≡ open_area file.now }
 {
     open_told(file.len(), file)
 }
 
-// A number for a test, by which two tests are compared.
-fn flag_number(t: bool) -> u32
-    ensures { result ≡ flag_number t }
-{
-    if t { 1 } else { 0 }
-}
-
-// Whether two layouts have the same band map, starts of blocks and comment cards. What has been compared up to a field is named after it, here and below.
-#[tactic(auto, unfolding(refusal_rules::specs::Tests::same_numbers))]
-fn same_blocks(a: AreaLayout, b: AreaLayout) -> bool
-    ensures { result ≡ same_numbers (block_numbers a) (block_numbers b) }
-{
-    let cards = equal_and(a.cards, b.cards, true);
-    let cal = equal_and(a.cal, b.cal, cards);
-    let aux = equal_and(a.aux, b.aux, cal);
-    let nav = equal_and(a.nav, b.nav, aux);
-    let data_start = equal_and(a.data_start, b.data_start, nav);
-    let map2 = equal_and(a.map2, b.map2, data_start);
-    equal_and(a.map, b.map, map2)
-}
-
-// Whether two layouts have the same line prefixes, and the same band map, starts of blocks and comment cards.
-#[tactic(auto, unfolding(refusal_rules::specs::Tests::same_numbers))]
-fn same_from_prefix(a: AreaLayout, b: AreaLayout) -> bool
-    ensures { result ≡ same_numbers (prefix_numbers a ++ block_numbers a) (prefix_numbers b ++ block_numbers b) }
-{
-    let blocks = same_blocks(a, b);
-    let padding = equal_and(a.padding, b.padding, blocks);
-    let band_list = equal_and(a.band_list, b.band_list, padding);
-    let calibration = equal_and(a.calibration, b.calibration, band_list);
-    let documentation = equal_and(a.documentation, b.documentation, calibration);
-    let code = equal_and(
-        flag_number(a.no_validity_code),
-        flag_number(b.no_validity_code),
-        documentation,
-    );
-    equal_and(a.prefix, b.prefix, code)
-}
-
 // Whether two AREA layouts are the same in every field.
-#[tactic(auto, unfolding(area_rules::specs::Opening::same_area, refusal_rules::specs::Tests::same_numbers))]
 pub fn same_area(a: AreaLayout, b: AreaLayout) -> bool
     ensures { result ≡ same_area a b }
 {
-    let a_order = a.order;
-    let b_order = b.order;
-    let prefix = same_from_prefix(a, b);
-    let bands = equal_and(a.bands, b.bands, prefix);
-    let width = equal_and(a.width, b.width, bands);
-    let elements = equal_and(a.elements, b.elements, width);
-    let lines = equal_and(a.lines, b.lines, elements);
-    let length = and(a.length == b.length, lines);
-    equal_and(order_number(a_order), order_number(b_order), length)
+    a == b
 }

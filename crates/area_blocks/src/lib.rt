@@ -4,28 +4,27 @@
 ghost use Rattle.std.specs.Prelude.{◌≡◌, ◌<◌};
 ghost use Rattle.area_rules.specs.Blocks.{nearer_start, next_start, block_starts};
 ghost use Rattle.area_rules.specs.Samples.{AreaFits};
-ghost use Rattle.span_rules.specs.Spans.{span_says, lent_bytes, that_part};
+ghost use Rattle.span_rules.specs.Spans.{lent_bytes, that_part};
 ghost use Rattle.area_part_rules.specs.Blocks.{optional_block_of, block_of, block_span};
+ghost use Rattle.refusal_rules.specs.Answers.{says};
 
 use area_places::data_length;
-use area_rules::{AreaLayout, AreaOpening, Block};
+use area_rules::{AreaLayout, Block};
 use fresh_layout::area_of;
 use layout_rules::Layout;
-use refusal_rules::{ABSENT, Refusal, SizeAnswer};
-use span_rules::{Span, SpanAnswer};
+use refusal_rules::Refusal;
+use span_rules::Span;
 use span_steps::hand_back;
 
 // The start s where it is greater than x and before n, else n: one step of the search for the next greater start.
 fn nearer_start(x: u32, s: u32, n: usize) -> usize
     ensures { result ≡ nearer_start x s n }
 {
-    let start = s as usize;
-    if x < s {
-        if start < n {
-            return start;
-        }
+    if x < s && (s as usize) < n {
+        s as usize
+    } else {
+        n
     }
-    n
 }
 
 // The byte after a block that starts at x: the next greater start, or else the end of the file.
@@ -41,87 +40,62 @@ fn end_of(l: AreaLayout, x: u32) -> usize
 
 // The span of NAV, CAL or AUX, which starts at x and is absent where x is 0.
 #[tactic(auto, unfolding(area_part_rules::specs::Blocks::optional_block_of, refusal_rules::specs::Rules::first_fault, refusal_rules::specs::Rules::first, refusal_rules::specs::Rules::judge))]
-fn optional_span(l: AreaLayout, x: u32) -> SpanAnswer
+fn optional_span(l: AreaLayout, x: u32) -> Result<Span, Refusal>
     requires { (x ≡ 0 → ⊥) → x < l.length }
-    ensures { span_says result ≡ optional_block_of l x }
+    ensures { says result ≡ optional_block_of l x }
 {
     if x == 0 {
-        return SpanAnswer::Refused(Refusal {
-            number: ABSENT,
-            place: 0,
-        });
+        return Err(Refusal::Absent);
     }
     let start = x as usize;
-    SpanAnswer::At(Span {
-        start: start,
+    Ok(Span {
+        start,
         length: end_of(l, x) - start,
     })
 }
 
-// The span of DATA, which has the bytes of its lines.
-#[tactic(auto, unfolding(area_part_rules::specs::Blocks::block_of, area_part_rules::specs::Blocks::block_rules, refusal_rules::specs::Rules::first_fault, refusal_rules::specs::Rules::first, refusal_rules::specs::Rules::judge))]
-fn data_span(l: AreaLayout) -> SpanAnswer
-    requires { AreaFits l }
-    ensures { span_says result ≡ block_of l Block.Data }
-{
-    match data_length(l) {
-        SizeAnswer::Refused(refusal) => SpanAnswer::Refused(refusal),
-        SizeAnswer::Value(length) => SpanAnswer::At(Span {
-            start: l.data_start as usize,
-            length: length,
-        }),
-    }
-}
-
-// The span of AUDIT, which is straight after DATA, and absent where there are no comment cards.
-#[tactic(auto, unfolding(area_part_rules::specs::Blocks::block_of, area_part_rules::specs::Blocks::block_rules, refusal_rules::specs::Rules::first_fault, refusal_rules::specs::Rules::first, refusal_rules::specs::Rules::judge))]
-fn audit_span(l: AreaLayout) -> SpanAnswer
-    requires { AreaFits l }
-    ensures { span_says result ≡ block_of l Block.Audit }
-{
-    if l.cards == 0 {
-        return SpanAnswer::Refused(Refusal {
-            number: ABSENT,
-            place: 0,
-        });
-    }
-    match data_length(l) {
-        SizeAnswer::Refused(refusal) => SpanAnswer::Refused(refusal),
-        SizeAnswer::Value(data) => SpanAnswer::At(Span {
-            start: l.data_start as usize + data,
-            length: 80 * l.cards as usize,
-        }),
-    }
-}
-
 // The span of a block of an accepted file.
-#[tactic(auto, unfolding(area_part_rules::specs::Blocks::block_of, area_part_rules::specs::Blocks::block_rules, refusal_rules::specs::Rules::first_fault, refusal_rules::specs::Rules::first, refusal_rules::specs::Rules::judge, area_part_rules::specs::Blocks::optional_block_of))]
-fn span_of(l: AreaLayout, block: Block) -> SpanAnswer
+#[tactic(auto, using(area_rules::proofs::Places::data_length), unfolding(area_part_rules::specs::Blocks::block_of, area_part_rules::specs::Blocks::block_rules, refusal_rules::specs::Rules::first_fault, refusal_rules::specs::Rules::first, refusal_rules::specs::Rules::judge, area_part_rules::specs::Blocks::optional_block_of))]
+fn span_of(l: AreaLayout, block: Block) -> Result<Span, Refusal>
     requires { AreaFits l }
-    ensures { span_says result ≡ block_of l block }
+    ensures { says result ≡ block_of l block }
 {
     match block {
-        Block::Dir => SpanAnswer::At(Span {
+        Block::Dir => Ok(Span {
             start: 0,
             length: 256,
         }),
         Block::Nav => optional_span(l, l.nav),
         Block::Cal => optional_span(l, l.cal),
         Block::Aux => optional_span(l, l.aux),
-        Block::Data => data_span(l),
-        Block::Audit => audit_span(l),
+        Block::Data => {
+            let length = data_length(l)?;
+            Ok(Span {
+                start: l.data_start as usize,
+                length,
+            })
+        }
+        // Straight after DATA, and absent where there are no comment cards.
+        Block::Audit => {
+            if l.cards == 0 {
+                return Err(Refusal::Absent);
+            }
+            let data = data_length(l)?;
+            Ok(Span {
+                start: l.data_start as usize + data,
+                length: 80 * l.cards as usize,
+            })
+        }
     }
 }
 
 // Where a block of an AREA file lies: start and length in bytes. Refused with 9 where the layout is stale, then with 7 where it is of another kind, then with 6
 // where the block is absent.
-pub fn block_span(file: &[u8], layout: Layout, block: Block) -> SpanAnswer
-    ensures { span_says result ≡ block_span file.now layout block }
+pub fn block_span(file: &[u8], layout: Layout, block: Block) -> Result<Span, Refusal>
+    ensures { says result ≡ block_span file.now layout block }
 {
-    match area_of(file, layout) {
-        AreaOpening::Refused(refusal) => SpanAnswer::Refused(refusal),
-        AreaOpening::Opened(l) => span_of(l, block),
-    }
+    let l = area_of(file, layout)?;
+    span_of(l, block)
 }
 
 // A block of an AREA file, handed back as that part of the file; empty where `block_span` refuses.

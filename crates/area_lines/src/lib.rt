@@ -2,29 +2,27 @@
 #![tactic(auto)]
 
 ghost use Rattle.std.specs.Prelude.{◌≡◌};
-ghost use Rattle.refusal_rules.specs.Answers.{number_says, size_says};
+ghost use Rattle.refusal_rules.specs.Answers.{says};
 ghost use Rattle.area_rules.specs.Samples.{AreaOf};
 ghost use Rattle.copy_rules.specs.Runs.{copied};
 ghost use Rattle.area_part_rules.specs.Lines.{band_slot_in, line_in, copy_line};
 
 use area_places::sample_place;
-use area_rules::{AreaLayout, AreaOpening, SlotOrBand};
+use area_rules::{AreaLayout, SlotOrBand};
 use bands::slot_of;
 use copy_rules::Strided;
 use fresh_layout::area_of;
 use layout_rules::Layout;
 use number_copy_steps::copy_numbers;
-use refusal_rules::{NumberAnswer, PlaceAnswer, SizeAnswer};
+use refusal_rules::Refusal;
 
 // The slot of a band, counted from 1, of an AREA file. Refused with 9 where the layout is stale, then with 7 where it is of another kind, then with 4 at 19 where
 // the band map has not as many set bits as there are bands, then with 7 where it has no such band.
-pub fn band_slot(file: &[u8], layout: Layout, band: u32) -> NumberAnswer
-    ensures { number_says result ≡ band_slot_in file.now layout band }
+pub fn band_slot(file: &[u8], layout: Layout, band: u32) -> Result<u32, Refusal>
+    ensures { says result ≡ band_slot_in file.now layout band }
 {
-    match area_of(file, layout) {
-        AreaOpening::Refused(refusal) => NumberAnswer::Refused(refusal),
-        AreaOpening::Opened(l) => slot_of(l, SlotOrBand::Band(band)),
-    }
+    let l = area_of(file, layout)?;
+    slot_of(l, SlotOrBand::Band(band))
 }
 
 // Copies one slot or band of one line of an accepted file.
@@ -34,22 +32,18 @@ fn copy_line_in(
     line: u32,
     which: SlotOrBand,
     out: &mut [u32],
-) -> SizeAnswer
+) -> Result<usize, Refusal>
     requires { AreaOf file.now l }
-    ensures { (size_says result, out.new) ≡ copied (line_in file.now l line which) out.old }
+    ensures { (says result, out.new) ≡ copied (line_in file.now l line which) out.old }
 {
     let order = l.order;
-    match sample_place(l, line, 0, which) {
-        PlaceAnswer::Refused(refusal) => SizeAnswer::Refused(refusal),
-        PlaceAnswer::At(place) => {
-            let run = Strided {
-                at: place.address,
-                step: l.bands as usize * l.width as usize,
-                count: l.elements as usize,
-            };
-            copy_numbers(order, place.width, file, run, out)
-        }
-    }
+    let place = sample_place(l, line, 0, which)?;
+    let run = Strided {
+        at: place.address,
+        step: l.bands as usize * l.width as usize,
+        count: l.elements as usize,
+    };
+    copy_numbers(order, place.width, file, run, out)
 }
 
 // Copies one slot, or one band, of one line, counted from 0, of an AREA file into the first places of a lent output of unsigned numbers, and answers how many
@@ -61,11 +55,9 @@ pub fn copy_line(
     line: u32,
     which: SlotOrBand,
     out: &mut [u32],
-) -> SizeAnswer
-    ensures { (size_says result, out.new) ≡ copy_line file.now layout line which out.old }
+) -> Result<usize, Refusal>
+    ensures { (says result, out.new) ≡ copy_line file.now layout line which out.old }
 {
-    match area_of(file, layout) {
-        AreaOpening::Refused(refusal) => SizeAnswer::Refused(refusal),
-        AreaOpening::Opened(l) => copy_line_in(file, l, line, which, out),
-    }
+    let l = area_of(file, layout)?;
+    copy_line_in(file, l, line, which, out)
 }

@@ -14,10 +14,8 @@ use Rattle.lists.specs.Lists.{list_of}
 use Rattle.lists.proofs.Built.{length-list_of}
 use Rattle.endian_rules.specs.Numbers.{number_at}
 use Rattle.refusal_rules.specs.Answers.{Answer, gives, refuses, answered, mapped, and_then, place}
-use Rattle.refusal_rules.specs.Rules.{rule, judge, first, first_fault}
+use Rattle.refusal_rules.specs.Rules.{rule, judge, first, first_fault, Verdict, Pass, Fault}
 use Rattle.refusal_rules.specs.declared.Place.{Place}
-use Rattle.refusal_rules.specs.declared.Verdict.{Verdict}
-use Rattle.refusal_rules.specs.declared.Verdict.TheVariants.{Pass, Fault}
 use Rattle.refusal_rules.proofs.Answers.{then_gives, then_never, value_exactly, never_refused, nine}
 use Rattle.refusal_rules.proofs.Tables.{also}
 use Rattle.area_rules.specs.Opening.{open_area}

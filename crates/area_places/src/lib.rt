@@ -2,118 +2,119 @@
 // that opening sets, there is no such value, and nothing is computed from it.
 #![tactic(auto)]
 
-ghost use Rattle.std.specs.Prelude.{◌≡◌, ◌≤◌};
-ghost use Rattle.refusal_rules.specs.Answers.{size_says, place_says};
-ghost use Rattle.refusal_rules.specs.Rules.{first_fault};
+ghost use Rattle.std.specs.Prelude.{◌≡◌, ◌≤◌, IfOk};
+ghost use Rattle.refusal_rules.specs.Answers.{says, verdict_of};
+ghost use Rattle.refusal_rules.specs.Rules.{rule, judge};
 ghost use Rattle.area_rules.specs.Bounds.{area_bounded, AreaBounds};
 ghost use Rattle.area_rules.specs.Samples.{line_length_in, line_start, sample_address};
-ghost use Rattle.area_rules.specs.Places.{length_of_line, length_of_data, line_start_of, sample_rules, sample_place};
+ghost use Rattle.area_rules.specs.Places.{length_of_line, length_of_data, line_start_of, sample_place};
 
 use area_rules::{AreaLayout, SlotOrBand};
 use area_steps::line_bytes;
 use bands::slot_of;
-use refusal::{and, check};
-use refusal_rules::{NO_SUCH, NumberAnswer, Place, PlaceAnswer, SizeAnswer, Verdict};
+use refusal::check;
+use refusal_rules::{Place, Refusal};
 
-// Whether the fields that AREA addresses are computed from are within the bounds that opening sets.
-#[tactic(auto, unfolding(area_rules::specs::Bounds::area_bounded))]
-fn area_bounded(layout: AreaLayout) -> bool
-    ensures { result ≡ area_bounded layout }
-{
-    let samples = and(layout.width <= 4, layout.bands <= 64);
-    and(
-        layout.lines <= 65535,
-        and(layout.elements <= 65535, samples),
-    )
+// A layout whose fields that AREA addresses are computed from are within the bounds that opening sets.
+#[derive(Clone, Copy)]
+struct Bounded {
+    layout: AreaLayout,
+    ghost bounds: { AreaBounds layout },
 }
 
-// The line length, in bytes.
-fn line_length_in(layout: AreaLayout) -> usize
-    requires { AreaBounds layout }
-    ensures { result ≡ line_length_in layout }
-{
-    line_bytes(layout.prefix, layout.bands, layout.elements, layout.width)
+impl Bounded {
+    // Refused with 7 where the layout is above the bounds.
+    #[tactic(auto, unfolding(refusal_rules::specs::Rules::judge, area_rules::specs::Bounds::area_bounded))]
+    fn new(layout: AreaLayout) -> Result<Bounded, Refusal>
+        ensures rule { verdict_of result ≡ judge (rule (area_bounded layout) 7 0) }
+        ensures same { IfOk result (λ b. b.layout ≡ layout) }
+    {
+        if layout.lines <= 65535
+            && layout.elements <= 65535
+            && layout.width <= 4
+            && layout.bands <= 64
+        {
+            Ok(Bounded { layout })
+        } else {
+            Err(Refusal::NoSuch)
+        }
+    }
+
+    // The line length, in bytes.
+    fn line_length(self) -> usize
+        ensures { result ≡ line_length_in self.layout }
+    {
+        let l = self.layout;
+        line_bytes(l.prefix, l.bands, l.elements, l.width)
+    }
+
+    // The byte at which a line begins, with its prefix.
+    fn line_start(self, line: u32) -> usize
+        requires { line ≤ self.layout.lines }
+        ensures { result ≡ line_start self.layout line }
+    {
+        self.layout.data_start as usize + line as usize * self.line_length()
+    }
+
+    // The byte at which the sample of a line, an element and a slot begins.
+    #[tactic(auto, using(area_rules::proofs::Sizes::lines_most, area_rules::proofs::Sizes::bytes_most))]
+    fn sample_address(self, line: u32, element: u32, slot: u32) -> usize
+        requires { (line ≤ self.layout.lines) × ((element ≤ self.layout.elements) × (slot ≤ self.layout.bands)) }
+        ensures { result ≡ sample_address self.layout line element slot }
+    {
+        let l = self.layout;
+        let before = element as usize * l.bands as usize + slot as usize;
+        self.line_start(line) + l.prefix as usize + before * l.width as usize
+    }
 }
 
 // How many bytes a line of an AREA file has, its prefix among them. Refused with 7 where the layout is above the bounds that opening sets.
-#[tactic(auto, unfolding(refusal_rules::specs::Rules::chained, area_rules::specs::Places::length_of_line))]
-pub fn line_length(layout: AreaLayout) -> SizeAnswer
-    ensures { size_says result ≡ length_of_line layout }
+#[tactic(auto, unfolding(refusal_rules::specs::Rules::first_fault, refusal_rules::specs::Rules::first, area_rules::specs::Places::length_of_line))]
+pub fn line_length(layout: AreaLayout) -> Result<usize, Refusal>
+    ensures { says result ≡ length_of_line layout }
 {
-    match check(Verdict::Pass, area_bounded(layout), NO_SUCH, 0) {
-        Verdict::Fault(refusal) => SizeAnswer::Refused(refusal),
-        Verdict::Pass => SizeAnswer::Value(line_length_in(layout)),
-    }
+    let bounded = Bounded::new(layout)?;
+    Ok(bounded.line_length())
 }
 
 // How many bytes DATA of an AREA file has: those of all its lines. Refused as `line_length`.
 #[tactic(auto, unfolding(area_rules::specs::Places::length_of_data))]
-pub fn data_length(layout: AreaLayout) -> SizeAnswer
-    ensures { size_says result ≡ length_of_data layout }
+pub fn data_length(layout: AreaLayout) -> Result<usize, Refusal>
+    ensures { says result ≡ length_of_data layout }
 {
-    match line_length(layout) {
-        SizeAnswer::Refused(refusal) => SizeAnswer::Refused(refusal),
-        SizeAnswer::Value(line) => {
-            let length = layout.lines as usize * line;
-            SizeAnswer::Value(length)
-        }
-    }
-}
-
-// The byte at which a line begins, with its prefix.
-fn line_at(layout: AreaLayout, line: u32) -> usize
-    requires { AreaBounds layout × (line ≤ layout.lines) }
-    ensures { result ≡ line_start layout line }
-{
-    layout.data_start as usize + line as usize * line_length_in(layout)
+    let line = line_length(layout)?;
+    Ok(layout.lines as usize * line)
 }
 
 // The byte at which a line of an AREA file begins, with its prefix, the line counted from 0. Refused with 7 where there is no such line, or the layout is above the
 // bounds that opening sets.
-#[tactic(auto, unfolding(area_rules::specs::Places::line_rules, refusal_rules::specs::Rules::chained, area_rules::specs::Places::line_start_of))]
-pub fn line_start(layout: AreaLayout, line: u32) -> SizeAnswer
-    ensures { size_says result ≡ line_start_of layout line }
+#[tactic(auto, unfolding(refusal_rules::specs::Rules::first_fault, refusal_rules::specs::Rules::first, area_rules::specs::Places::line_rules, area_rules::specs::Places::line_start_of))]
+pub fn line_start(layout: AreaLayout, line: u32) -> Result<usize, Refusal>
+    ensures { says result ≡ line_start_of layout line }
 {
-    let bounded = check(Verdict::Pass, area_bounded(layout), NO_SUCH, 0);
-    match check(bounded, line < layout.lines, NO_SUCH, 0) {
-        Verdict::Fault(refusal) => SizeAnswer::Refused(refusal),
-        Verdict::Pass => SizeAnswer::Value(line_at(layout, line)),
-    }
-}
-
-// The byte at which the sample of a line, an element and a slot begins.
-fn sample_address(layout: AreaLayout, line: u32, element: u32, slot: u32) -> usize
-    requires { AreaBounds layout × ((line ≤ layout.lines) × ((element ≤ layout.elements) × (slot ≤ layout.bands))) }
-    ensures { result ≡ sample_address layout line element slot }
-{
-    let before = element as usize * layout.bands as usize + slot as usize;
-    line_at(layout, line) + layout.prefix as usize + before * layout.width as usize
-}
-
-// What the rules of a sample of a line and an element say: 7 where there is no such line or element.
-#[tactic(auto, unfolding(area_rules::specs::Places::sample_rules, refusal_rules::specs::Rules::chained))]
-fn sample_verdict(layout: AreaLayout, line: u32, element: u32) -> Verdict
-    ensures { result ≡ first_fault (sample_rules layout line element) }
-{
-    let bounded = check(Verdict::Pass, area_bounded(layout), NO_SUCH, 0);
-    let lines = check(bounded, line < layout.lines, NO_SUCH, 0);
-    check(lines, element < layout.elements, NO_SUCH, 0)
+    let bounded = Bounded::new(layout)?;
+    check(line < layout.lines, Refusal::NoSuch)?;
+    Ok(bounded.line_start(line))
 }
 
 // The place of a sample of an AREA file, named by line and element, both counted from 0, and slot or band. Refused with 4 at 19 where a band is named and the band
 // map is unusable, then with 7 where there is no such line, element, slot or band, or the layout is above the bounds that opening sets.
-#[tactic(auto, unfolding(area_rules::specs::Places::sample_place))]
-pub fn sample_place(layout: AreaLayout, line: u32, element: u32, which: SlotOrBand) -> PlaceAnswer
-    ensures { place_says result ≡ sample_place layout line element which }
+#[tactic(auto, unfolding(refusal_rules::specs::Rules::first_fault, refusal_rules::specs::Rules::first, refusal_rules::specs::Rules::judge, area_rules::specs::Places::sample_rules, area_rules::specs::Places::sample_place))]
+pub fn sample_place(
+    layout: AreaLayout,
+    line: u32,
+    element: u32,
+    which: SlotOrBand,
+) -> Result<Place, Refusal>
+    ensures { says result ≡ sample_place layout line element which }
 {
-    match slot_of(layout, which) {
-        NumberAnswer::Refused(refusal) => PlaceAnswer::Refused(refusal),
-        NumberAnswer::Value(slot) => match sample_verdict(layout, line, element) {
-            Verdict::Fault(refusal) => PlaceAnswer::Refused(refusal),
-            Verdict::Pass => PlaceAnswer::At(Place {
-                address: sample_address(layout, line, element, slot),
-                width: layout.width as usize,
-            }),
-        },
+    let slot = slot_of(layout, which)?;
+    let bounded = Bounded::new(layout)?;
+    if line >= layout.lines || element >= layout.elements {
+        return Err(Refusal::NoSuch);
     }
+    Ok(Place {
+        address: bounded.sample_address(line, element, slot),
+        width: layout.width as usize,
+    })
 }

@@ -1,21 +1,22 @@
 // The regions of a line prefix of an AREA file, the padding among them: where each lies, and its bytes handed back.
 #![tactic(auto)]
 
-ghost use Rattle.std.specs.Prelude.{◌≡◌, ◌≤◌};
+ghost use Rattle.std.specs.Prelude.{◌≡◌, ◌≤◌, sum, take};
 ghost use Rattle.lists.specs.Segments.{total, segment_offset};
 ghost use Rattle.area_rules.specs.Blocks.{region_lengths, region_index, region_length, region_offset};
 ghost use Rattle.area_rules.specs.Samples.{AreaFits};
-ghost use Rattle.span_rules.specs.Spans.{span, span_says, lent_bytes, that_part};
+ghost use Rattle.span_rules.specs.Spans.{span, lent_bytes, that_part};
 ghost use Rattle.area_part_rules.specs.Regions.{region_of, region_span};
+ghost use Rattle.refusal_rules.specs.Answers.{says};
 
 use area_places::line_start;
-use area_rules::{AreaLayout, AreaOpening, Region};
+use area_rules::{AreaLayout, Region};
 use fresh_layout::area_of;
 use layout_rules::Layout;
 use prefix_lengths::validity_length;
 use refusal::check;
-use refusal_rules::{ABSENT, NO_SUCH, SizeAnswer, Verdict};
-use span_rules::{Span, SpanAnswer};
+use refusal_rules::Refusal;
+use span_rules::Span;
 use span_steps::hand_back;
 
 // The lengths of the regions of a line prefix, in their order.
@@ -46,60 +47,35 @@ fn region_index(region: Region) -> usize
 
 // How many bytes the first k regions of a line prefix have together, by the lengths of all its regions.
 fn offset_of(lengths: &[usize; 5], k: usize) -> usize
-    requires { (k ≤ 4) × (total lengths.now ≤ 4294967295) }
-    ensures { result ≡ segment_offset lengths.now k }
+    requires { (k ≤ 4) × (sum (take k lengths.now) ≤ 4294967295) }
+    ensures { result ≡ sum (take k lengths.now) }
 {
-    let mut offset: usize = 0;
-    let mut i: usize = 0;
-    while i < k {
-        offset += lengths[i];
-        i += 1;
-    }
-    offset
-}
-
-// Where a region lies in a line prefix of an accepted file: how many bytes there are before it, and how many it has.
-fn region_in_prefix(l: AreaLayout, region: Region) -> Span
-    requires { AreaFits l }
-    ensures { result ≡ span (region_offset l region) (region_length l region) }
-{
-    let lengths = region_lengths(l);
-    let k = region_index(region);
-    Span {
-        start: offset_of(&lengths, k),
-        length: lengths[k],
-    }
+    lengths[..k].iter().sum()
 }
 
 // The span of a region of a line's prefix in an accepted file.
-#[tactic(auto, unfolding(area_part_rules::specs::Regions::region_rules, refusal_rules::specs::Rules::chained, area_part_rules::specs::Regions::region_of))]
-fn region_of(l: AreaLayout, line: u32, region: Region) -> SpanAnswer
+#[tactic(auto, using(area_rules::proofs::Bounds::area_bounded_lem, crate::proofs::Sums::sum_total), unfolding(area_rules::specs::Places::line_start_of, area_rules::specs::Places::line_rules, area_part_rules::specs::Regions::region_rules, refusal_rules::specs::Rules::first_fault, refusal_rules::specs::Rules::first, refusal_rules::specs::Rules::judge, area_part_rules::specs::Regions::region_of))]
+fn region_of(l: AreaLayout, line: u32, region: Region) -> Result<Span, Refusal>
     requires { AreaFits l }
-    ensures { span_says result ≡ region_of l line region }
+    ensures { says result ≡ region_of l line region }
 {
-    let part = region_in_prefix(l, region);
-    let lines = check(Verdict::Pass, line < l.lines, NO_SUCH, 0);
-    match check(lines, part.length != 0, ABSENT, 0) {
-        Verdict::Fault(refusal) => SpanAnswer::Refused(refusal),
-        Verdict::Pass => match line_start(l, line) {
-            SizeAnswer::Refused(refusal) => SpanAnswer::Refused(refusal),
-            SizeAnswer::Value(start) => SpanAnswer::At(Span {
-                start: start + part.start,
-                length: part.length,
-            }),
-        },
-    }
+    let start = line_start(l, line)?;
+    let lengths = region_lengths(l);
+    let k = region_index(region);
+    check(lengths[k] != 0, Refusal::Absent)?;
+    Ok(Span {
+        start: start + offset_of(&lengths, k),
+        length: lengths[k],
+    })
 }
 
 // Where a region of the prefix of a line, counted from 0, of an AREA file lies, or its padding: start and length in bytes. Refused with 9 where the layout is stale, then with
 // 7 where it is of another kind, then with 7 where there is no such line, then with 6 where the region has length 0.
-pub fn region_span(file: &[u8], layout: Layout, line: u32, region: Region) -> SpanAnswer
-    ensures { span_says result ≡ region_span file.now layout line region }
+pub fn region_span(file: &[u8], layout: Layout, line: u32, region: Region) -> Result<Span, Refusal>
+    ensures { says result ≡ region_span file.now layout line region }
 {
-    match area_of(file, layout) {
-        AreaOpening::Refused(refusal) => SpanAnswer::Refused(refusal),
-        AreaOpening::Opened(l) => region_of(l, line, region),
-    }
+    let l = area_of(file, layout)?;
+    region_of(l, line, region)
 }
 
 // A region of a line's prefix, handed back as that part of the file; empty where `region_span` refuses.

@@ -5,9 +5,8 @@ use mathlib.Core.Logic.{◌↔◌}
 use mathlib.Core.List.{List}
 use Prim.Native.Nat.{ℕ}
 use lib.ListN.{length}
-use Rattle.refusal_rules.specs.Rules.{FirstFailing}
+use Rattle.refusal_rules.specs.Rules.{FirstFailing, Refused}
 use Rattle.refusal_rules.specs.Answers.{gives, refuses}
-use Rattle.refusal_rules.specs.declared.Refusal.{Refusal}
 use Rattle.refusal_rules.proofs.Answers.{value_exactly, refusal_exactly}
 use Rattle.area_rules.specs.Rules.{directory_of, word_in, area_order, area_rules}
 use Rattle.area_rules.specs.Opening.{area_layout_of, open_area_told, open_area}
@@ -28,7 +27,7 @@ told_exactly told d l =
     (λ e. (y.0 (x.0 e).0, (x.0 e).1), λ a. x.1 (y.1 a.0, a.1))
 
 -- and is refused exactly where a rule fails, by the first that does
-pub told_refused : (told : ℕ) (d : List ℕ) (r : Refusal) → (open_area_told told d ≡ refuses r.number r.place) ↔ FirstFailing (area_rules told d) r
+pub told_refused : (told : ℕ) (d : List ℕ) (r : Refused) → (open_area_told told d ≡ refuses r.number r.place) ↔ FirstFailing (area_rules told d) r
 unfolding open_area_told
 told_refused told d r = refusal_exactly (area_rules told d) (layout_told told d) r
 
@@ -38,6 +37,6 @@ unfolding open_area
 area_exactly f l = told_exactly (length f) f l
 
 -- and refused exactly where one fails
-pub area_refused : (f : List ℕ) (r : Refusal) → (open_area f ≡ refuses r.number r.place) ↔ FirstFailing (area_rules (length f) f) r
+pub area_refused : (f : List ℕ) (r : Refused) → (open_area f ≡ refuses r.number r.place) ↔ FirstFailing (area_rules (length f) f) r
 unfolding open_area
 area_refused f r = told_refused (length f) f r

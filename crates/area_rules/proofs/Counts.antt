@@ -8,9 +8,8 @@ use native.Mathlib.Nat.{mul-le-mul}
 use native.Mathlib.Omega.{arith}
 use lib.Dec.{eqb}
 use borrow.Author.Tests.{eqb-true}
-use Rattle.refusal_rules.specs.Rules.{first_fault, tabled, Hold}
+use Rattle.refusal_rules.specs.Rules.{first_fault, tabled, Hold, Pass}
 use Rattle.refusal_rules.specs.Tests.{Exactly}
-use Rattle.refusal_rules.specs.declared.Verdict.TheVariants.{Pass}
 use Rattle.refusal_rules.proofs.Exactness.{eq_exactly, either_exactly, within_exactly}
 use Rattle.refusal_rules.proofs.Tables.{pass_hold, also}
 use Rattle.area_rules.specs.Rules.{is_width, area_count_rules, prefix_length_of, line_length_of, area_shape_rules, area_place_rules, area_described_rules, area_word_rules, area_rules}

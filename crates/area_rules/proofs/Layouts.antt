@@ -7,27 +7,10 @@ use Prim.Native.Nat.{ℕ}
 use native.Mathlib.Omega.{arith}
 use lib.ListN.{get_or}
 use Rattle.endian_rules.proofs.Places.{order-same}
-use Rattle.refusal_rules.specs.Answers.{Answer, gives, refuses}
 use Rattle.refusal_rules.specs.Tests.{Exactly}
-use Rattle.refusal_rules.proofs.Answers.{settled}
 use Rattle.refusal_rules.proofs.Exactness.{by_numbers}
-use Rattle.area_rules.specs.Opening.{area_says, flag_number, area_numbers, same_area}
+use Rattle.area_rules.specs.Opening.{flag_number, area_numbers, same_area}
 use Rattle.area_rules.specs.declared.AreaLayout.{AreaLayout}
-use Rattle.area_rules.specs.declared.AreaOpening.{AreaOpening}
-use Rattle.area_rules.specs.declared.AreaOpening.TheVariants.{Opened, Refused}
-
--- what an opening's answer says settles the answer
-back : Answer AreaLayout → AreaOpening
-back (gives l) = Opened l
-back (refuses n p) = Refused (record { number = n; place = p })
-
-pub area_settled : (x y : AreaOpening) → area_says x ≡ area_says y → x ≡ y
-unfolding back
-area_settled = settled area_says back (λ x. step x)
-  where
-    step : (x : AreaOpening) → back (area_says x) ≡ x
-    step (Opened l) = refl
-    step (Refused r) = refl
 
 -- two tests with one number are the same
 flag_same : (a b : Bool) → flag_number a ≡ flag_number b → a ≡ b

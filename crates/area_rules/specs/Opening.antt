@@ -5,18 +5,11 @@ use Rattle.endian_rules.specs.Words.{order_number}
 use Rattle.endian_rules.specs.declared.Order.{Order}
 use Rattle.lists.specs.Choices.{pick}
 use Rattle.refusal_rules.specs.Rules.{first_fault}
-use Rattle.refusal_rules.specs.Answers.{Answer, gives, refuses, answered}
+use Rattle.refusal_rules.specs.Answers.{Answer, answered}
 use Rattle.refusal_rules.specs.Tests.{same_numbers}
 use Rattle.area_rules.specs.Rules.{directory_of, word_in, area_order, padding_length_of, area_word_rules, area_rules}
 use Rattle.area_rules.specs.Bands.{second_map}
 use Rattle.area_rules.specs.declared.AreaLayout.{AreaLayout}
-use Rattle.area_rules.specs.declared.AreaOpening.{AreaOpening}
-use Rattle.area_rules.specs.declared.AreaOpening.TheVariants.{Opened, Refused}
-
--- what each case of the answer of opening an AREA file says
-abbrev pub area_says : AreaOpening → Answer AreaLayout
-area_says (Opened a) = gives a
-area_says (Refused r) = refuses r.number r.place
 
 -- the layout that the words of a file of `told` bytes give: "W9, W10, W11, W14, W15, W19, W20 (0 unless W14 is above 32), W34, W35, W49, W50, W51,
 -- W60, W63, W64, and whether W36 is 0", and "the layout gains the padding length" (document 02, request 4)

@@ -3,7 +3,6 @@
 #![tactic(auto)]
 
 use endian_rules::Order;
-use refusal_rules::Refusal;
 
 // What opening an AREA file finds: the byte order in which word 2 reads 4 and the file's length in bytes; and as raw words the lines (W9), the
 // elements of a line (W10), the bytes of a sample (W11), the bands (W14), the bytes of a line prefix (W15), the band map (W19, and W20, which is 0
@@ -11,7 +10,7 @@ use refusal_rules::Refusal;
 // (W51) in a line prefix, those of the padding behind them, which fill the prefix up to a multiple of four, the starts of AUX (W60) and CAL (W63), the
 // comment cards (W64), and whether W36 is 0, where lines have no validity code. A start of 0 means that there is no such block. "Layout" is document 01's
 // term.
-#[derive(Clone, Copy)]
+#[derive(Clone, Copy, Debug, PartialEq, Eq)]
 pub struct AreaLayout {
     pub order: Order,
     pub length: usize,
@@ -34,15 +33,8 @@ pub struct AreaLayout {
     pub no_validity_code: bool,
 }
 
-// What opening an AREA file answers: its layout, or a refusal.
-#[derive(Clone, Copy)]
-pub enum AreaOpening {
-    Opened(AreaLayout),
-    Refused(Refusal),
-}
-
 // The blocks of an AREA file: the directory, navigation, calibration, the supplemental block, the image lines, and the comment cards.
-#[derive(Clone, Copy)]
+#[derive(Clone, Copy, Debug, PartialEq, Eq)]
 pub enum Block {
     Dir,
     Nav,
@@ -54,7 +46,7 @@ pub enum Block {
 
 // The regions of a line prefix, in their order. The padding fills the prefix up to a multiple of four. "Region" is document 01's term for each of these stretches of
 // a prefix, and "padding" document 02's.
-#[derive(Clone, Copy)]
+#[derive(Clone, Copy, Debug, PartialEq, Eq)]
 pub enum Region {
     Validity,
     Documentation,
@@ -64,7 +56,7 @@ pub enum Region {
 }
 
 // Which sample of an element is meant: the one at a slot, counted from 0, or that of a band, counted from 1, which stands for its slot.
-#[derive(Clone, Copy)]
+#[derive(Clone, Copy, Debug, PartialEq, Eq)]
 pub enum SlotOrBand {
     Slot(u32),
     Band(u32),

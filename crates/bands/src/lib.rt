@@ -2,12 +2,12 @@
 #![tactic(auto)]
 
 ghost use Rattle.std.specs.Prelude.{◌≡◌, ◌<◌, ◌≤◌};
-ghost use Rattle.refusal_rules.specs.Answers.{number_says};
+ghost use Rattle.refusal_rules.specs.Answers.{says};
 ghost use Rattle.area_rules.specs.Bands.{second_map, map_bit, set_below, has_band, band_slot, slot_of};
 
 use area_rules::{AreaLayout, SlotOrBand};
-use refusal::{check, within};
-use refusal_rules::{NO_SUCH, NumberAnswer, RULE_BROKEN, Verdict};
+use refusal::check;
+use refusal_rules::Refusal;
 
 // The second word of the band map of so many bands, as it counts: 0 unless there are more than 32.
 pub fn second_map(bands: u32, map2: u32) -> u32
@@ -16,71 +16,75 @@ pub fn second_map(bands: u32, map2: u32) -> u32
     if bands <= 32 { 0 } else { map2 }
 }
 
-// Bit i of the band map, that of band i + 1. The second word is given as it counts.
-#[tactic(auto, unfolding(area_rules::specs::Bands::map_bit))]
-fn map_bit(map: u32, map2: u32, i: u32) -> u32
-    requires { i < 64 }
-    ensures { result ≡ map_bit map map2 i }
-{
-    if i < 32 {
-        (map >> i) & 1
-    } else {
-        (map2 >> (i - 32)) & 1
+// The band map of an AREA file: its two words, the second as it counts.
+#[derive(Clone, Copy)]
+struct BandMap {
+    first: u32,
+    second: u32,
+}
+
+impl BandMap {
+    // Bit i of the map, that of band i + 1.
+    #[tactic(auto, unfolding(area_rules::specs::Bands::map_bit))]
+    fn bit(self, i: u32) -> u32
+        requires { i < 64 }
+        ensures { result ≡ map_bit self.first self.second i }
+    {
+        if i < 32 {
+            (self.first >> i) & 1
+        } else {
+            (self.second >> (i - 32)) & 1
+        }
+    }
+
+    // How many of the bits below bit n are set.
+    #[tactic(auto, using(area_rules::proofs::Bands::bit_most, area_rules::proofs::Bands::below_most), unfolding(area_rules::specs::Bands::set_below))]
+    fn set_below(self, n: u32) -> u32
+        requires { n ≤ 64 }
+        ensures { result ≡ set_below self.first self.second n }
+    {
+        let mut count: u32 = 0;
+        for i in 0..n {
+            count += self.bit(i);
+        }
+        count
+    }
+
+    // Whether the map has a band.
+    #[tactic(auto, unfolding(refusal_rules::specs::Tests::within))]
+    fn has(self, band: u32) -> bool
+        ensures { result ≡ has_band self.first self.second band }
+    {
+        (1..=64).contains(&band) && self.bit(band - 1) == 1
     }
 }
 
-// How many of the bits below bit n are set.
-#[tactic(auto, unfolding(area_rules::specs::Bands::set_below))]
-fn set_below(map: u32, map2: u32, n: u32) -> u32
-    requires { n ≤ 64 }
-    ensures { result ≡ set_below map map2 n }
+// The slot of a band of a layout. Refused with 4 at 19 where the band map has not as many set bits as there are bands, and with 7 where it has no such band.
+#[tactic(auto, unfolding(area_rules::specs::Bands::band_rules, refusal_rules::specs::Rules::first_fault, refusal_rules::specs::Rules::first, area_rules::specs::Bands::band_slot))]
+fn slot_of_band(layout: AreaLayout, band: u32) -> Result<u32, Refusal>
+    ensures { says result ≡ band_slot layout.map layout.map2 layout.bands band }
 {
-    let mut count: u32 = 0;
-    let mut i: u32 = 0;
-    while i < n {
-        count += map_bit(map, map2, i);
-        i += 1;
-    }
-    count
-}
-
-// Whether the map has a band.
-fn has_band(map: u32, map2: u32, band: u32) -> bool
-    ensures { result ≡ has_band map map2 band }
-{
-    if within(1, 64, band) {
-        map_bit(map, map2, band - 1) == 1
-    } else {
-        false
-    }
-}
-
-// The slot of a band in a map of `bands` bands, of which the second word counts only where there are more than 32. Refused with 4 at 19 where the map has not that many
-// set bits, and with 7 where it has no such band.
-#[tactic(auto, unfolding(area_rules::specs::Bands::band_rules, refusal_rules::specs::Rules::chained, area_rules::specs::Bands::band_slot))]
-fn slot_of_band(map: u32, map2: u32, bands: u32, band: u32) -> NumberAnswer
-    ensures { number_says result ≡ band_slot map map2 bands band }
-{
-    let second = second_map(bands, map2);
-    let usable = set_below(map, second, 64) == bands;
-    let by_map = check(Verdict::Pass, usable, RULE_BROKEN, 19);
-    match check(by_map, has_band(map, second, band), NO_SUCH, 0) {
-        Verdict::Fault(refusal) => NumberAnswer::Refused(refusal),
-        Verdict::Pass => NumberAnswer::Value(set_below(map, second, band - 1)),
-    }
+    let second = second_map(layout.bands, layout.map2);
+    let map = BandMap {
+        first: layout.map,
+        second,
+    };
+    check(map.set_below(64) == layout.bands, Refusal::RuleBroken(19))?;
+    check(map.has(band), Refusal::NoSuch)?;
+    Ok(map.set_below(band - 1))
 }
 
 // The slot that a slot or band of a layout means. Refused with 4 at 19 where a band is named and the band map is unusable, and with 7 where there is no such
 // slot or band.
-#[tactic(auto, unfolding(refusal_rules::specs::Rules::chained))]
-pub fn slot_of(layout: AreaLayout, which: SlotOrBand) -> NumberAnswer
-    ensures { number_says result ≡ slot_of layout which }
+#[tactic(auto, unfolding(refusal_rules::specs::Rules::first_fault, refusal_rules::specs::Rules::first))]
+pub fn slot_of(layout: AreaLayout, which: SlotOrBand) -> Result<u32, Refusal>
+    ensures { says result ≡ slot_of layout which }
 {
     match which {
-        SlotOrBand::Slot(slot) => match check(Verdict::Pass, slot < layout.bands, NO_SUCH, 0) {
-            Verdict::Fault(refusal) => NumberAnswer::Refused(refusal),
-            Verdict::Pass => NumberAnswer::Value(slot),
-        },
-        SlotOrBand::Band(band) => slot_of_band(layout.map, layout.map2, layout.bands, band),
+        SlotOrBand::Slot(slot) => {
+            check(slot < layout.bands, Refusal::NoSuch)?;
+            Ok(slot)
+        }
+        SlotOrBand::Band(band) => slot_of_band(layout, band),
     }
 }

@@ -3,12 +3,13 @@
 
 ghost use Rattle.std.specs.Prelude.{◌≡◌, ◌<◌, ◌≤◌, pos};
 ghost use Rattle.calendar_rules.specs.Gregorian.{leap, days_before, year_length, month_of, date_in};
-ghost use Rattle.calendar_rules.specs.Dates.{date_says, date_of};
-ghost use Rattle.calendar_rules.specs.Times.{time_says, time_of};
+ghost use Rattle.calendar_rules.specs.Dates.{date_of};
+ghost use Rattle.calendar_rules.specs.Times.{time_of};
+ghost use Rattle.refusal_rules.specs.Answers.{says};
 
-use calendar_rules::{Date, DateAnswer, TimeAnswer, TimeOfDay};
+use calendar_rules::{Date, TimeOfDay};
 use refusal::{and, check, or, within};
-use refusal_rules::{NO_DATE, Refusal, Verdict};
+use refusal_rules::Refusal;
 
 // The days of a year before each of its months: of a common year, and then of a leap year.
 const DAYS_BEFORE: [u32; 24] = [
@@ -49,14 +50,12 @@ fn year_length(leap: bool) -> u32
 fn month_of(leap: bool, day: u32) -> usize
     ensures { result ≡ month_of leap day }
 {
-    let mut month: usize = 11;
-    while 0 < month {
-        if days_before(leap, month) < day {
-            return month;
+    for month in 1..12 {
+        if day <= days_before(leap, month) {
+            return month - 1;
         }
-        month -= 1;
     }
-    0
+    11
 }
 
 // The date of a day of a year.
@@ -68,73 +67,63 @@ fn date_in(year: u32, day: u32) -> Date
     let leap = is_leap(year);
     let month = month_of(leap, day);
     Date {
-        year: year,
+        year,
         month: (month + 1) as u32,
         day: day - days_before(leap, month),
     }
 }
 
 // The date of a word that is not negative, or refusal 11.
-#[tactic(auto, unfolding(calendar_rules::specs::Dates::date_rules, refusal_rules::specs::Rules::chained, refusal_rules::specs::Rules::first, calendar_rules::specs::Dates::date_of))]
-fn date_of_number(n: u32) -> DateAnswer
-    ensures { date_says result ≡ date_of (pos n) }
+#[tactic(auto, unfolding(calendar_rules::specs::Dates::date_rules, refusal_rules::specs::Rules::first_fault, refusal_rules::specs::Rules::first, refusal_rules::specs::Rules::judge, calendar_rules::specs::Dates::date_of))]
+fn date_of_number(n: u32) -> Result<Date, Refusal>
+    ensures { says result ≡ date_of (pos n) }
 {
     let year = 1900 + n / 1000;
     let day = n % 1000;
     let length = year_length(is_leap(year));
-    let verdict = check(Verdict::Pass, n <= 999999, NO_DATE, 0);
-    match check(verdict, within(1, length, day), NO_DATE, 0) {
-        Verdict::Pass => DateAnswer::On(date_in(year, day)),
-        Verdict::Fault(refusal) => DateAnswer::Refused(refusal),
-    }
+    check(n <= 999999, Refusal::NoDate)?;
+    check(within(1, length, day), Refusal::NoDate)?;
+    Ok(date_in(year, day))
 }
 
 // The date of a word yyyddd: 1000 times the years since 1900, and the day of the year. Refused with 11 where the word is
 // negative or above 999,999, or its day is not one of that year.
 #[tactic(auto, unfolding(calendar_rules::specs::Dates::date_of, calendar_rules::specs::Dates::date_rules, refusal_rules::specs::Rules::first_fault, refusal_rules::specs::Rules::first, refusal_rules::specs::Rules::judge))]
-pub fn date_of(word: i32) -> DateAnswer
-    ensures { date_says result ≡ date_of word }
+pub fn date_of(word: i32) -> Result<Date, Refusal>
+    ensures { says result ≡ date_of word }
 {
-    if 0 <= word {
-        return date_of_number(word as u32);
+    match u32::try_from(word) {
+        Ok(n) => date_of_number(n),
+        Err(_) => Err(Refusal::NoDate),
     }
-    DateAnswer::Refused(Refusal {
-        number: NO_DATE,
-        place: 0,
-    })
 }
 
 // The time of day of a word that is not negative, or refusal 11.
-#[tactic(auto, unfolding(calendar_rules::specs::Times::time_rules, refusal_rules::specs::Rules::chained, refusal_rules::specs::Rules::first, calendar_rules::specs::Times::time_of))]
-fn time_of_number(n: u32) -> TimeAnswer
-    ensures { time_says result ≡ time_of (pos n) }
+#[tactic(auto, unfolding(calendar_rules::specs::Times::time_rules, refusal_rules::specs::Rules::first_fault, refusal_rules::specs::Rules::first, refusal_rules::specs::Rules::judge, calendar_rules::specs::Times::time_of))]
+fn time_of_number(n: u32) -> Result<TimeOfDay, Refusal>
+    ensures { says result ≡ time_of (pos n) }
 {
     let hours = n / 10000;
     let minutes = n / 100 % 100;
     let seconds = n % 100;
-    let to_hours = check(Verdict::Pass, hours <= 23, NO_DATE, 0);
-    let to_minutes = check(to_hours, minutes <= 59, NO_DATE, 0);
-    match check(to_minutes, seconds <= 59, NO_DATE, 0) {
-        Verdict::Pass => TimeAnswer::At(TimeOfDay {
-            hours: hours,
-            minutes: minutes,
-            seconds: seconds,
-        }),
-        Verdict::Fault(refusal) => TimeAnswer::Refused(refusal),
-    }
+    check(hours <= 23, Refusal::NoDate)?;
+    check(minutes <= 59, Refusal::NoDate)?;
+    check(seconds <= 59, Refusal::NoDate)?;
+    Ok(TimeOfDay {
+        hours,
+        minutes,
+        seconds,
+    })
 }
 
 // The time of day of a word hhmmss. Refused with 11 where the word is negative, its hours are above 23, or its minutes or
 // seconds above 59.
 #[tactic(auto, unfolding(calendar_rules::specs::Times::time_of, calendar_rules::specs::Times::time_rules, refusal_rules::specs::Rules::first_fault, refusal_rules::specs::Rules::first, refusal_rules::specs::Rules::judge))]
-pub fn time_of(word: i32) -> TimeAnswer
-    ensures { time_says result ≡ time_of word }
+pub fn time_of(word: i32) -> Result<TimeOfDay, Refusal>
+    ensures { says result ≡ time_of word }
 {
-    if 0 <= word {
-        return time_of_number(word as u32);
+    match u32::try_from(word) {
+        Ok(n) => time_of_number(n),
+        Err(_) => Err(Refusal::NoDate),
     }
-    TimeAnswer::Refused(Refusal {
-        number: NO_DATE,
-        place: 0,
-    })
 }

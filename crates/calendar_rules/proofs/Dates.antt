@@ -10,28 +10,13 @@ use lib.IntN.{ℤ, pos, negsuc, pos-ne-negsuc}
 use lib.ListN.{get_or}
 use borrow.Author.Tests.{leb-true, le-leb}
 use Rattle.refusal_rules.specs.Rules.{Hold}
-use Rattle.refusal_rules.specs.Answers.{Answer, gives, refuses}
+use Rattle.refusal_rules.specs.Answers.{gives, refuses}
 use Rattle.refusal_rules.proofs.Exactness.{within_exactly}
-use Rattle.refusal_rules.proofs.Answers.{settled, value_exactly, exactly_one, exactly_none}
+use Rattle.refusal_rules.proofs.Answers.{value_exactly, exactly_one, exactly_none}
 use Rattle.calendar_rules.specs.Gregorian.{leap, month_lengths, days_before, year_length, IsDate, day_of_year, month_of, date_in}
-use Rattle.calendar_rules.specs.Dates.{date_says, year_of, day_of, date_rules, date_of, DateWord}
+use Rattle.calendar_rules.specs.Dates.{year_of, day_of, date_rules, date_of, DateWord}
 use Rattle.calendar_rules.specs.declared.Date.{Date}
-use Rattle.calendar_rules.specs.declared.DateAnswer.{DateAnswer}
-use Rattle.calendar_rules.specs.declared.DateAnswer.TheVariants.{On, Refused}
 use Rattle.calendar_rules.proofs.Months.{days_mono, year_most, month_only, Lies, month_lies}
-
--- what a date call's answer says settles the answer
-back : Answer Date → DateAnswer
-back (gives d) = On d
-back (refuses n p) = Refused (record { number = n; place = p })
-
-pub date_settled : (x y : DateAnswer) → date_says x ≡ date_says y → x ≡ y
-unfolding back
-date_settled = settled date_says back (λ x. step x)
-  where
-    step : (x : DateAnswer) → back (date_says x) ≡ x
-    step (On d) = refl
-    step (Refused r) = refl
 
 -- ---- the rules
 

@@ -70,6 +70,19 @@ last_back isLeap day (suc m) h le =
     let e : suc m - 1 ≡ m = omega arith in
     rw (le-ltb (days_before isLeap (suc m)) day le, e)
 
+-- no month after one that ends with or after a day begins before that day ends
+pub last_stays : (isLeap : Bool) (day m k : ℕ) → m ≤ k → day ≤ days_before isLeap (suc m)
+    → last_before isLeap day k ≡ last_before isLeap day m
+last_stays isLeap day m zero h le = let e : m ≡ 0 = omega arith in rw e
+last_stays isLeap day m (suc k) h le =
+    ⊎_elim
+    (λ e. rw e)
+    (λ lt.
+    let past : day ≤ days_before isLeap (suc k) = omega (arith, le, days_mono isLeap (suc m) (suc k) (omega arith)) in
+    let back : suc k - 1 ≡ k = omega arith in
+    rw back at (last_back isLeap day (suc k) (omega arith) past) ∙ last_stays isLeap day m k (le_of_suc-le-suc lt) le)
+    (eq-or-lt_of_le h)
+
 -- a day after the start of a month and not after its end lies in it
 pub month_only : (isLeap : Bool) (day m k : ℕ) → m ≤ k → days_before isLeap m < day → day ≤ days_before isLeap (suc m)
     → last_before isLeap day k ≡ m

@@ -9,25 +9,10 @@ use lib.Dec.{leb-zero}
 use lib.IntN.{ℤ, pos, negsuc, pos-ne-negsuc}
 use borrow.Author.Tests.{leb-true, le-leb}
 use Rattle.refusal_rules.specs.Rules.{Hold}
-use Rattle.refusal_rules.specs.Answers.{Answer, gives, refuses}
-use Rattle.refusal_rules.proofs.Answers.{settled, value_exactly, exactly_one, exactly_none}
-use Rattle.calendar_rules.specs.Times.{time_says, time_in, time_rules, time_of, TimeWord}
+use Rattle.refusal_rules.specs.Answers.{gives, refuses}
+use Rattle.refusal_rules.proofs.Answers.{value_exactly, exactly_one, exactly_none}
+use Rattle.calendar_rules.specs.Times.{time_in, time_rules, time_of, TimeWord}
 use Rattle.calendar_rules.specs.declared.TimeOfDay.{TimeOfDay}
-use Rattle.calendar_rules.specs.declared.TimeAnswer.{TimeAnswer}
-use Rattle.calendar_rules.specs.declared.TimeAnswer.TheVariants.{At, Refused}
-
--- what a time call's answer says settles the answer
-back : Answer TimeOfDay → TimeAnswer
-back (gives t) = At t
-back (refuses n p) = Refused (record { number = n; place = p })
-
-pub time_settled : (x y : TimeAnswer) → time_says x ≡ time_says y → x ≡ y
-unfolding back
-time_settled = settled time_says back (λ x. step x)
-  where
-    step : (x : TimeAnswer) → back (time_says x) ≡ x
-    step (At t) = refl
-    step (Refused r) = refl
 
 -- the rules hold exactly where the word is the hhmmss of the time of day that it holds
 hold_word : (z : ℤ) → Hold (time_rules z) → TimeWord z (time_in z)

@@ -4,17 +4,10 @@
 use Rattle.std.specs.Prelude.{◌≡◌, List, [], ◌∷◌, ℕ, ◌+◌, ◌-◌, ◌*◌, ◌/◌, ◌%◌, ◌≤◌, leb, ℤ, pos, nat_abs}
 use Rattle.std.specs.Int.Signed.{le_z}
 use Rattle.refusal_rules.specs.Rules.{Rule, rule, first_fault}
-use Rattle.refusal_rules.specs.Answers.{Answer, gives, refuses, answered}
+use Rattle.refusal_rules.specs.Answers.{Answer, answered}
 use Rattle.refusal_rules.specs.Tests.{within}
 use Rattle.calendar_rules.specs.Gregorian.{leap, year_length, IsDate, day_of_year, date_in}
 use Rattle.calendar_rules.specs.declared.Date.{Date}
-use Rattle.calendar_rules.specs.declared.DateAnswer.{DateAnswer}
-use Rattle.calendar_rules.specs.declared.DateAnswer.TheVariants.{On, Refused}
-
--- what each case of a date call's answer says
-abbrev pub date_says : DateAnswer → Answer Date
-date_says (On d) = gives d
-date_says (Refused r) = refuses r.number r.place
 
 -- the year that a date word holds
 abbrev pub year_of : ℤ → ℕ

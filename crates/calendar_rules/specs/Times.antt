@@ -3,15 +3,8 @@
 use Rattle.std.specs.Prelude.{◌≡◌, List, [], ◌∷◌, ◌+◌, ◌*◌, ◌/◌, ◌%◌, ◌≤◌, leb, ℤ, pos, nat_abs}
 use Rattle.std.specs.Int.Signed.{le_z}
 use Rattle.refusal_rules.specs.Rules.{Rule, rule, first_fault}
-use Rattle.refusal_rules.specs.Answers.{Answer, gives, refuses, answered}
+use Rattle.refusal_rules.specs.Answers.{Answer, answered}
 use Rattle.calendar_rules.specs.declared.TimeOfDay.{TimeOfDay}
-use Rattle.calendar_rules.specs.declared.TimeAnswer.{TimeAnswer}
-use Rattle.calendar_rules.specs.declared.TimeAnswer.TheVariants.{At, Refused}
-
--- what each case of a time call's answer says
-abbrev pub time_says : TimeAnswer → Answer TimeOfDay
-time_says (At t) = gives t
-time_says (Refused r) = refuses r.number r.place
 
 -- the hours, minutes and seconds that a time word holds
 abbrev pub time_in : ℤ → TimeOfDay

@@ -3,7 +3,7 @@
 #![tactic(auto)]
 
 // Numbers at equal distances: so many, the first at a byte, each so many bytes behind the one before.
-#[derive(Clone, Copy)]
+#[derive(Clone, Copy, Debug, PartialEq, Eq)]
 pub struct Strided {
     pub at: usize,
     pub step: usize,
@@ -12,7 +12,7 @@ pub struct Strided {
 
 // Lines of words: so many lines, the first at a byte, each `across` bytes behind the one before; in a line so many words, each `along` bytes behind the
 // one before.
-#[derive(Clone, Copy)]
+#[derive(Clone, Copy, Debug, PartialEq, Eq)]
 pub struct WordLines {
     pub at: usize,
     pub across: usize,

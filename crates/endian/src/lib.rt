@@ -12,22 +12,14 @@ use endian_rules::Order;
 pub fn signed(n: u32) -> i32
     ensures { result ≡ to_z w32 n }
 {
-    if n < 2147483648 {
-        n as i32
-    } else {
-        -1 - ((4294967295 - n) as i32)
-    }
+    n.cast_signed()
 }
 
 // The 32 bits of a two's-complement word, as an unsigned number.
 pub fn unsigned(v: i32) -> u32
     ensures { result ≡ of_z w32 v }
 {
-    if 0 <= v {
-        v as u32
-    } else {
-        4294967295 - ((-1 - v) as u32)
-    }
+    v.cast_unsigned()
 }
 
 // Whether a raw word is, as the signed word that it is, at least `low`. A negative word never is.
@@ -38,7 +30,8 @@ pub fn at_least(low: usize, n: u32) -> bool
     low <= n as usize && n < 2147483648
 }
 
-// A number for each byte order, by which two orders are compared.
+// A number for each byte order: 0 for big, 1 for little.
+// A number, since the definitions of equal layouts compare byte orders by it.
 pub fn order_number(order: Order) -> u32
     ensures { result ≡ order_number order }
 {

@@ -5,7 +5,7 @@
 #![tactic(auto)]
 
 // The byte order of a file: the most significant byte of a number first, or the least significant.
-#[derive(Clone, Copy)]
+#[derive(Clone, Copy, Debug, PartialEq, Eq)]
 pub enum Order {
     Big,
     Little,

@@ -13,6 +13,17 @@ ghost use Rattle.endian_rules.specs.Words.{signed_at, encode_signed, word_at};
 use endian::{signed, unsigned};
 use endian_rules::Order;
 
+// Where the digit k of a number of `width` bytes at `at` stands. Digit 0 is the least significant.
+fn digit_position(order: Order, width: usize, at: usize, k: usize) -> usize
+    requires { (k < width) × (at + width < 2 ^ 64) }
+    ensures { result ≡ at + position order width k }
+{
+    match order {
+        Order::Big => at + (width - 1 - k),
+        Order::Little => at + k,
+    }
+}
+
 // The unsigned number of `width` bytes, at most four, at the byte `at`. The caller must make sure that the bytes are inside the file.
 #[tactic(auto, unfolding(endian_rules::proofs::Numbers::sum_of_powers))]
 pub fn read_number(order: Order, width: usize, file: &[u8], at: usize) -> u32
@@ -21,7 +32,8 @@ pub fn read_number(order: Order, width: usize, file: &[u8], at: usize) -> u32
 {
     let end = at + width;
     let bytes = &file[at..end];
-    // Each byte is multiplied by its power of 256. A byte that is not there, since the number has fewer than four, counts 0.
+    // A sum for each order, and a function for the bytes of each: with one function of order and place a copy in little order takes up to twice as many
+    // instructions. Each byte is multiplied by its power of 256. A byte that is not there, since the number has fewer than four, counts 0.
     match order {
         // The first byte is the most significant, and the last one is multiplied by 1.
         Order::Big => byte_from_end(bytes, 3) * 16777216
@@ -75,29 +87,16 @@ pub fn read_word(order: Order, file: &[u8], k: usize) -> u32
     read_number(order, 4, file, 4 * k)
 }
 
-// Where the digit k of a number of `width` bytes at `at` stands. Digit 0 is the least significant.
-fn digit_position(order: Order, width: usize, at: usize, k: usize) -> usize
-    requires { (k < width) × (at + width < 2 ^ 64) }
-    ensures { result ≡ at + position order width k }
-{
-    match order {
-        Order::Big => at + (width - 1 - k),
-        Order::Little => at + k,
-    }
-}
-
 // Writes the low `width` bytes of n at the byte `at`. The caller must make sure that the bytes are inside the file. No other byte changes.
 pub fn write_number(order: Order, width: usize, file: &mut [u8], at: usize, n: u32)
     requires { at + width ≤ length file.old }
     ensures { file.new ≡ sets file.old at (encode order width n) }
 {
-    let mut k = 0;
     let mut left = n;
-    while k < width {
+    for k in 0..width {
         let i = digit_position(order, width, at, k);
         file[i] = (left % 256) as u8;
-        left = left / 256;
-        k += 1;
+        left /= 256;
     }
 }
 

@@ -12,7 +12,7 @@ use lib.Dec.{leb, ltb}
 use lib.ListN.{length}
 use borrow.Author.Tests.{leb-true, ltb-true, lt-ltb, le-ltb, le-leb, eqb-false, ne_eqb}
 use Rattle.lists.specs.Choices.{pick, both}
-use Rattle.lists.specs.Lowest.{lowest, IsLowest}
+use Rattle.lists.specs.Lowest.{IsLowest}
 use Rattle.lists.proofs.Choices.{both_true, true_both}
 use Rattle.lists.proofs.Lowest.{lowest_is, lowest_exactly}
 use Rattle.endian_rules.specs.Words.{word_at}

@@ -5,8 +5,7 @@ use Rattle.lists.specs.Choices.{pick, both}
 use Rattle.lists.specs.Lists.{list_of, over}
 use Rattle.endian_rules.specs.Words.{word_at}
 use Rattle.endian_rules.specs.declared.Order.{Order}
-use Rattle.refusal_rules.specs.Rules.{first_fault}
-use Rattle.refusal_rules.specs.declared.Verdict.TheVariants.{Pass}
+use Rattle.refusal_rules.specs.Rules.{first_fault, Pass}
 use Rattle.grid_rules.specs.Rules.{grid_end, grid_file_rules}
 use Rattle.grid_rules.specs.Accepts.{FullSlot}
 use Rattle.extent_rules.specs.Stretches.{extent, no_words, extent_end, slot_extent, lowest_free, first_word, run_from, free_stretches}

@@ -9,32 +9,22 @@ ghost use Rattle.extent_rules.specs.Rooms.{searched, lesser};
 
 use endian_rules::Order;
 use extent_rules::Extent;
-use extent_steps::{directory_extent, first_fitting, run_after};
+use extent_steps::{AcceptedFile, directory_extent, first_fitting};
 
 // Fills the first places of a table with the first free stretches of a file, in address order; places past them stay. The caller must make sure that the table
 // has so many places, and that the file is accepted unless there are none to fill.
+// Not an `AcceptedFile` as a parameter: it would ask that a file is accepted of which no stretch is wanted.
 #[tactic(auto, unfolding(extent_rules::specs::Steps::nth_run, lists::specs::Lists::list_of))]
 pub fn fill<'t, 'f>(table: &'t mut [Extent], file: &'f [u8], order: Order, count: usize)
     requires { (count ≤ length table.old) × (0 < count → GridAccepted order file.now) }
     ensures { table.new ≡ runs_over order file.now count table.old }
 {
     let mut e = directory_extent(file, order);
-    let mut i: usize = 0;
-    while i < count {
-        e = run_after(file, order, e);
-        table[i] = e;
-        i = i + 1;
+    for place in table[..count].iter_mut() {
+        let accepted = AcceptedFile { file, order };
+        e = accepted.run_after(e);
+        *place = e;
     }
-}
-
-// So many places, or as many as a table of `size` places has where that is less.
-fn lesser(count: usize, size: usize) -> usize
-    ensures { result ≡ lesser count size }
-{
-    if count <= size {
-        return count;
-    }
-    size
 }
 
 // The first of a table's first `count` extents into which `need` words fit so that they end by 2,147,483,647; no words where there is none. All are searched where
@@ -43,15 +33,13 @@ fn lesser(count: usize, size: usize) -> usize
 pub fn first_fit(table: &[Extent], count: usize, need: usize) -> Extent
     ensures { result ≡ searched table.now need (lesser count (length table.now)) }
 {
-    let places = lesser(count, table.len());
+    let places = &table[..count.min(table.len())];
     let mut found = Extent {
         start: 0,
         length: 0,
     };
-    let mut i: usize = 0;
-    while i < places {
-        found = first_fitting(need, found, table[i]);
-        i = i + 1;
+    for extent in places {
+        found = first_fitting(need, found, *extent);
     }
     found
 }

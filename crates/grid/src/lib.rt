@@ -3,122 +3,91 @@
 
 ghost use Rattle.std.specs.Prelude.{◌≡◌, ◌<◌, length};
 ghost use Rattle.endian_rules.specs.Words.{word_at};
-ghost use Rattle.refusal_rules.specs.Rules.{first_fault};
-ghost use Rattle.grid_rules.specs.Opening.{same_grid, grid_says, open_grid};
+ghost use Rattle.refusal_rules.specs.Rules.{first_fault, Pass};
+ghost use Rattle.grid_rules.specs.Opening.{same_grid, open_grid};
 ghost use Rattle.grid_rules.specs.Rules.{shares, slots_rules, slot_rules, grid_file_rules};
-ghost use Rattle.grid_rules.specs.Accepts.{GridRoom};
+ghost use Rattle.refusal_rules.specs.Answers.{says, verdict_of};
 
-use endian::order_number;
 use endian_rules::Order;
 use endian_steps::read_word;
-use grid_rules::{EMPTY_SLOT, GridLayout, GridOpening};
-use grid_steps::{head_verdict, meets_slot, open_wanted, own_verdict};
-use refusal::{and, check, equal_and};
-use refusal_rules::{MISPLACED, Verdict};
+use grid_rules::{EMPTY_SLOT, GridLayout};
+use grid_steps::{Directory, head_verdict, open_wanted};
+use refusal::check;
+use refusal_rules::Refusal;
 
-// Whether two GRID layouts are the same in every field. What has been compared up to a field is named after it.
-#[tactic(auto, unfolding(grid_rules::specs::Opening::same_grid, refusal_rules::specs::Tests::same_numbers))]
+// Whether two GRID layouts are the same in every field.
+#[tactic(auto, using(lists::proofs::Choices::and_both, lists::proofs::Choices::both_last, endian_rules::proofs::Orders::order_numbers), unfolding(grid_rules::specs::Opening::same_grid, refusal_rules::specs::Tests::same_numbers))]
 pub fn same_grid(a: GridLayout, b: GridLayout) -> bool
     ensures { result ≡ same_grid a b }
 {
-    let a_order = a.order;
-    let b_order = b.order;
-    let columns = equal_and(a.columns, b.columns, true);
-    let rows = equal_and(a.rows, b.rows, columns);
-    let offset = equal_and(a.offset, b.offset, rows);
-    let number = equal_and(a.number, b.number, offset);
-    let length = and(a.length == b.length, number);
-    equal_and(order_number(a_order), order_number(b_order), length)
+    a == b
 }
 
-// Whether one of the first k slots has a word from `low` up to `high`. Their checks must have passed.
+// Whether one of the first k slots of a directory has a word from `low` up to `high`. Their checks must have passed.
 #[tactic(auto, unfolding(grid_rules::specs::Rules::shares))]
-fn shares_word(
-    file: &[u8],
-    order: Order,
-    n: usize,
-    next: usize,
-    k: usize,
-    low: usize,
-    high: usize,
-) -> bool
-    requires { GridRoom (length file.now) n next × ((k < n) × (first_fault (slots_rules (word_at order file.now) n next k) ≡ Verdict.Pass)) }
-    ensures { result ≡ shares (word_at order file.now) low high k }
+fn shares_word(directory: Directory, k: usize, low: usize, high: usize) -> bool
+    requires { (k < directory.grids) × (first_fault (slots_rules (word_at directory.order directory.file.now) directory.grids directory.next k) ≡ Pass) }
+    ensures { result ≡ shares (word_at directory.entry.order directory.entry.file.now) low high k }
 {
-    let mut j = 0;
-    while j < k {
-        if meets_slot(file, order, n, next, j, low, high) {
+    for j in 0..k {
+        if directory.meets_slot(j, low, high) {
             return true;
         }
-        j += 1;
     }
     false
 }
 
 // What the checks of slot k say. Those of the slots before it must have passed.
-#[tactic(auto, unfolding(refusal_rules::specs::Rules::first_fault, refusal_rules::specs::Rules::first, grid_rules::specs::Rules::overlap_rule))]
-fn slot_verdict(file: &[u8], order: Order, n: usize, next: usize, k: usize) -> Verdict
-    requires { GridRoom (length file.now) n next × ((k < n) × (first_fault (slots_rules (word_at order file.now) n next k) ≡ Verdict.Pass)) }
-    ensures { result ≡ first_fault (slot_rules (word_at order file.now) n next k) }
+#[tactic(auto, using(refusal_rules::proofs::Tables::joined_faults), unfolding(refusal_rules::specs::Rules::first_fault, refusal_rules::specs::Rules::first, grid_rules::specs::Rules::slot_rules, grid_rules::specs::Rules::overlap_rule))]
+fn slot_verdict(directory: Directory, k: usize) -> Result<(), Refusal>
+    requires { (k < directory.grids) × (first_fault (slots_rules (word_at directory.order directory.file.now) directory.grids directory.next k) ≡ Pass) }
+    ensures { verdict_of result ≡ first_fault (slot_rules (word_at directory.entry.order directory.entry.file.now) directory.entry.grids directory.entry.next k) }
 {
-    let word = read_word(order, file, 11 + k);
+    let word = read_word(directory.order, directory.file, 11 + k);
     if word == EMPTY_SLOT {
-        return Verdict::Pass;
+        return Ok(());
     }
-    match own_verdict(file, order, n, next, k) {
-        Verdict::Fault(refusal) => Verdict::Fault(refusal),
-        Verdict::Pass => {
-            let low = word as usize;
-            let high = low + 64 + read_word(order, file, low) as usize;
-            let overlaps = shares_word(file, order, n, next, k, low, high);
-            check(Verdict::Pass, !overlaps, MISPLACED, 11 + k)
-        }
-    }
+    directory.own_verdict(k)?;
+    let low = word as usize;
+    let high = low + 64 + read_word(directory.order, directory.file, low) as usize;
+    let overlaps = shares_word(directory, k, low, high);
+    check(!overlaps, Refusal::Misplaced(11 + k))
 }
 
-// What the checks of all n slots say, slot by slot.
+// What the checks of all slots of a directory say, slot by slot.
 #[tactic(auto, unfolding(grid_rules::specs::Rules::slots_rules, refusal_rules::specs::Rules::first_fault))]
-fn slots_verdict(file: &[u8], order: Order, n: usize, next: usize) -> Verdict
-    requires { GridRoom (length file.now) n next }
-    ensures { result ≡ first_fault (slots_rules (word_at order file.now) n next n) }
+fn slots_verdict(directory: Directory) -> Result<(), Refusal>
+    ensures { verdict_of result ≡ first_fault (slots_rules (word_at directory.entry.order directory.entry.file.now) directory.entry.grids directory.entry.next directory.entry.grids) }
 {
-    let mut k = 0;
-    while k < n {
-        match slot_verdict(file, order, n, next, k) {
-            Verdict::Fault(refusal) => {
-                return Verdict::Fault(refusal);
-            }
-            Verdict::Pass => {}
-        }
-        k += 1;
+    for k in 0..directory.grids {
+        slot_verdict(directory, k)?;
     }
-    Verdict::Pass
+    Ok(())
 }
 
 // What the checks of a whole GRID file say, before a grid of it is asked for: 1 to 5 with document 01's places. The first fault of the lowest
 // slot that has one comes first.
-#[tactic(auto, unfolding(refusal_rules::specs::Rules::first))]
-pub fn file_verdict(file: &[u8], order: Order) -> Verdict
-    ensures { result ≡ first_fault (grid_file_rules (length file.now) (word_at order file.now)) }
+#[tactic(auto, using(refusal_rules::proofs::Tables::joined_faults), unfolding(grid_rules::specs::Rules::grid_file_rules, refusal_rules::specs::Rules::first))]
+pub fn file_verdict(file: &[u8], order: Order) -> Result<(), Refusal>
+    ensures { verdict_of result ≡ first_fault (grid_file_rules (length file.now) (word_at order file.now)) }
 {
-    match head_verdict(file, order) {
-        Verdict::Fault(refusal) => Verdict::Fault(refusal),
-        Verdict::Pass => {
-            let n = read_word(order, file, 10) as usize;
-            let next = read_word(order, file, 11 + n) as usize;
-            slots_verdict(file, order, n, next)
-        }
-    }
+    head_verdict(file, order)?;
+    let grids = read_word(order, file, 10) as usize;
+    let next = read_word(order, file, 11 + grids) as usize;
+    slots_verdict(Directory {
+        file,
+        order,
+        grids,
+        next,
+    })
 }
 
 // Opens the grid of a number, counted from 1, in a byte order. Refused by the first fault of the whole file, then with 7 where there is no such
 // grid, then with 6 where its slot is empty.
-#[tactic(auto, unfolding(grid_rules::specs::Opening::open_grid))]
-pub fn open(file: &[u8], order: Order, number: u32) -> GridOpening
-    ensures { grid_says result ≡ open_grid order file.now number }
+#[tactic(auto, using(refusal_rules::proofs::Tables::joined_faults), unfolding(grid_rules::specs::Opening::open_grid, grid_rules::specs::Opening::open_grid_words, grid_rules::specs::Opening::open_wanted, refusal_rules::specs::Rules::first))]
+pub fn open(file: &[u8], order: Order, number: u32) -> Result<GridLayout, Refusal>
+    ensures { says result ≡ open_grid order file.now number }
 {
-    match file_verdict(file, order) {
-        Verdict::Fault(refusal) => GridOpening::Refused(refusal),
-        Verdict::Pass => open_wanted(file, order, number),
-    }
+    file_verdict(file, order)?;
+    open_wanted(file, order, number)
 }

@@ -1,6 +1,6 @@
 -- What the corrections of the example give: a corrected point reads back its value, and two corrections of different points may be made in either order.
 -- Assumes nothing.
-use mathlib.Core.Path.{◌≡◌, refl, sym, ap, subst, ◌∙◌}
+use mathlib.Core.Path.{◌≡◌, refl, sym, ap, ap₂, subst, ◌∙◌}
 use mathlib.Core.List.Memᴰ
 use mathlib.Core.List.Permᴰ
 use mathlib.Core.List.{List, [], ◌∷◌}
@@ -8,10 +8,10 @@ use Prim.Native.Nat.{ℕ}
 use lib.IntN.{ℤ}
 use lib.ListN.{get_or}
 use mir.Syntax.{w32}
-use mir.Val.{SFits}
+use mir.Val.{of_z, SFits}
 use Rattle.endian_rules.specs.declared.Order.{Order}
-use Rattle.refusal_rules.specs.Answers.{gives, mapped}
-use Rattle.refusal_rules.proofs.Answers.{mapped-gives}
+use Rattle.refusal_rules.specs.Answers.{Answer, gives, refuses, mapped}
+use Rattle.refusal_rules.proofs.Answers.{gives-refuses, mapped-gives, mapped-refuses}
 use Rattle.refusal_rules.specs.declared.Place.{Place}
 use Rattle.store_theory.specs.Plans.{outcome, SucceedsAt}
 use Rattle.store_theory.specs.Stores.{All}
@@ -23,13 +23,13 @@ use Rattle.layout_rules.specs.declared.Layout.{Layout}
 use Rattle.layout_rules.specs.declared.Layout.TheVariants.{Area, Grid, Md}
 use Rattle.value_rules.specs.declared.ValueName.TheVariants.{Point}
 use Rattle.value_rules.proofs.Places.{Located, point_at_lem, points_named}
-use Rattle.value_rules.specs.Reading.{read_point}
+use Rattle.value_rules.specs.Reading.{place_in, read_word, read_point}
 use Rattle.value_rules.proofs.Reading.{point_located}
-use Rattle.store_rules.specs.Stores.{Store, Done, signed, point, plan_of, stores_in, store_point, store_format}
+use Rattle.store_rules.specs.Stores.{Store, Done, signed, point, put_in, plan_of, stores_in, store_point, store_format}
 use Rattle.store_rules.proofs.Stores.{order_does_not_matter}
-use Rattle.store_rules.proofs.Single.{reads_back, done_at, word_done}
+use Rattle.store_rules.proofs.Single.{store_by_place, reads_back, done_at, word_done}
 use Rattle.grid_correction.specs.Corrections.{corrected_by, correct_point, store_of, two_say, correct_two}
-use Rattle.store_rules.proofs.Answers.{store_settled}
+use Rattle.refusal_rules.proofs.Answers.{says_settles}
 use Rattle.grid_correction.specs.declared.Correction.{Correction}
 use Rattle.grid_correction.specs.declared.TwoAnswers.{TwoAnswers}
 
@@ -38,16 +38,40 @@ pub two_settled : (x y : TwoAnswers) → two_say x ≡ two_say y → x ≡ y
 two_settled x y e =
     λ i.
     record {
-      first = store_settled x.first y.first (ap (λ (l : List Done). get_or l 0 (gives tt)) e) i;
-      second = store_settled x.second y.second (ap (λ (l : List Done). get_or l 1 (gives tt)) e) i;
+      first = says_settles x.first y.first (ap (λ (l : List Done). get_or l 0 (gives tt)) e) i;
+      second = says_settles x.second y.second (ap (λ (l : List Done). get_or l 1 (gives tt)) e) i;
     }
 
--- a store of a point that can be read succeeds, and the point then reads the value
+-- a store of a point that can be read succeeds
+pub stored : (f : List ℕ) (l : Layout) (r c : ℕ) (v old : ℤ) → SFits w32 v → read_point f l r c ≡ gives old → (store_point f l r c v).0 ≡ gives tt
+stored f l r c v old typed e = (word_done f l (point r c v) tt typed).1 (point_located f l r c old e)
+
+-- a store of a point that is refused when it is read leaves the file as it was
+pub unread : (f : List ℕ) (l : Layout) (r c : ℕ) (v : ℤ) (n p : ℕ) → read_point f l r c ≡ refuses n p → (store_point f l r c v).1 ≡ f
+unfolding read_word outcome
+unread f l r c v n p e =
+    let at : place_in f l (Point r c) ≡ refuses n p = (mapped-refuses _ (place_in f l (Point r c)) n p).0 e in
+    ap (λ (d : Done × List ℕ). d.1) (store_by_place f l (point r c v))
+    ∙ ap (λ (x : Answer Place). (outcome f (put_in (layout_order l) (of_z w32 v) x)).1) at
+
+-- so does a correction of it
+pub unread_told : (f : List ℕ) (o : Order) (g r c : ℕ) (v : ℤ) (l : Layout) (n p : ℕ) → gives l ≡ mapped Grid (open_grid o f g)
+    → refuses n p ≡ read_point f l r c → (refuses n p, f) ≡ correct_point f o g r c v
+unread_told f o g r c v l n p opens e =
+    ap₂ (λ (x : Answer ℤ) (h : List ℕ). (x, h)) e (sym (unread f l r c v n p (sym e))) ∙ ap (λ (x : Answer Layout). corrected_by f x r c v) opens
+
+-- a store of a point that can be read is not refused
+pub stored_told : (f : List ℕ) (l : Layout) (r c : ℕ) (v old : ℤ) (n p : ℕ) (h : List ℕ) → SFits w32 v → gives old ≡ read_point f l r c
+    → ¬ ((refuses n p, h) ≡ store_point f l r c v)
+stored_told f l r c v old n p h typed e same =
+    gives-refuses (sym (stored f l r c v old typed (sym e)) ∙ sym (ap (λ (d : Done × List ℕ). d.0) same))
+
+-- a point that can be read reads the value after a store
 stored_reads : (f : List ℕ) (l : Layout) (r c : ℕ) (v old : ℤ) → SFits w32 v → read_point f l r c ≡ gives old
     → read_point (store_point f l r c v).1 l r c ≡ gives v
 stored_reads f l r c v old typed e =
-    let done = (word_done f l (point r c v) tt typed).1 (point_located f l r c old e) in
-    (mapped-gives signed (λ x y same. cc) (read_point (store_point f l r c v).1 l r c) v).0 (reads_back f l (point r c v) typed done)
+    (mapped-gives signed (λ x y same. cc) (read_point (store_point f l r c v).1 l r c) v).0
+    (reads_back f l (point r c v) typed (stored f l r c v old typed e))
 
 -- A point whose correction is answered its old value reads the new one, by the layout with which the file was opened.
 pub corrected_reads : (f : List ℕ) (o : Order) (g r c : ℕ) (v old : ℤ) (l : GridLayout) → SFits w32 v → open_grid o f g ≡ gives l

@@ -2,14 +2,13 @@
 -- Assumes nothing.
 use Rattle.std.specs.Prelude.{List, [], ◌∷◌, ℕ, ℤ}
 use Rattle.endian_rules.specs.declared.Order.{Order}
-use Rattle.refusal_rules.specs.Answers.{Answer, gives, refuses, mapped}
+use Rattle.refusal_rules.specs.Answers.{Answer, gives, refuses, mapped, says}
 use Rattle.store_theory.specs.Series.{leaves, replies}
 use Rattle.grid_rules.specs.Opening.{open_grid}
 use Rattle.layout_rules.specs.declared.Layout.{Layout}
 use Rattle.layout_rules.specs.declared.Layout.TheVariants.{Grid}
 use Rattle.value_rules.specs.Reading.{read_point}
 use Rattle.store_rules.specs.Stores.{Store, Done, point, stores_in, store_point}
-use Rattle.store_rules.specs.Answers.{store_says}
 use Rattle.grid_correction.specs.declared.Correction.{Correction}
 use Rattle.grid_correction.specs.declared.TwoAnswers.{TwoAnswers}
 
@@ -28,7 +27,7 @@ store_of l x = record { layout = l; request = point x.row x.column x.value }
 
 -- what two stores answer, one after the other
 abbrev pub two_say : TwoAnswers → List Done
-two_say r = store_says r.first ∷ store_says r.second ∷ []
+two_say r = says r.first ∷ says r.second ∷ []
 
 -- what two corrections, one after the other, answer, and the file that they leave: a series of stores, as demand 3 speaks of them
 abbrev pub correct_two : List ℕ → Layout → Correction → Correction → List Done × List ℕ

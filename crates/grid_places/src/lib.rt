@@ -4,24 +4,24 @@
 
 ghost use Rattle.std.specs.Prelude.{◌≡◌};
 ghost use Rattle.refusal_rules.specs.Rules.{first_fault};
-ghost use Rattle.refusal_rules.specs.Answers.{place_says};
+ghost use Rattle.refusal_rules.specs.Answers.{says, verdict_of};
 ghost use Rattle.grid_rules.specs.Places.{point_rules, point_place};
 ghost use Rattle.grid_rules.specs.Points.{point_word, IsPoint};
 ghost use Rattle.grid_rules.specs.Bounds.{GridBounds};
 
 use grid_rules::GridLayout;
 use refusal::{and, check, within};
-use refusal_rules::{NO_SUCH, Place, PlaceAnswer, Verdict};
+use refusal_rules::{Place, Refusal};
 
 // What the rules of a point of a row and a column say: 7 where there is no such row or column.
-#[tactic(auto, unfolding(grid_rules::specs::Places::point_rules, grid_rules::specs::Bounds::grid_bounded, refusal_rules::specs::Rules::chained))]
-fn point_verdict(layout: GridLayout, row: u32, column: u32) -> Verdict
-    ensures { result ≡ first_fault (point_rules layout row column) }
+#[tactic(auto, unfolding(grid_rules::specs::Places::point_rules, grid_rules::specs::Bounds::grid_bounded, refusal_rules::specs::Rules::first_fault, refusal_rules::specs::Rules::first))]
+fn point_verdict(layout: GridLayout, row: u32, column: u32) -> Result<(), Refusal>
+    ensures { verdict_of result ≡ first_fault (point_rules layout row column) }
 {
     let bounded = and(layout.rows <= 65535, layout.columns <= 65535);
-    let sizes = check(Verdict::Pass, bounded, NO_SUCH, 0);
-    let rows = check(sizes, within(1, layout.rows, row), NO_SUCH, 0);
-    check(rows, within(1, layout.columns, column), NO_SUCH, 0)
+    check(bounded, Refusal::NoSuch)?;
+    check(within(1, layout.rows, row), Refusal::NoSuch)?;
+    check(within(1, layout.columns, column), Refusal::NoSuch)
 }
 
 // The word of the point of a row and a column.
@@ -36,14 +36,12 @@ fn point_word(layout: GridLayout, row: u32, column: u32) -> usize
 // The place of a point of a grid, named by row and column, both counted from 1. Refused with 7 where there is no such row or column, or the layout is above
 // the bounds that opening sets.
 #[tactic(auto, unfolding(grid_rules::specs::Places::point_place))]
-pub fn point_place(layout: GridLayout, row: u32, column: u32) -> PlaceAnswer
-    ensures { place_says result ≡ point_place layout row column }
+pub fn point_place(layout: GridLayout, row: u32, column: u32) -> Result<Place, Refusal>
+    ensures { says result ≡ point_place layout row column }
 {
-    match point_verdict(layout, row, column) {
-        Verdict::Fault(refusal) => PlaceAnswer::Refused(refusal),
-        Verdict::Pass => PlaceAnswer::At(Place {
-            address: 4 * point_word(layout, row, column),
-            width: 4,
-        }),
-    }
+    point_verdict(layout, row, column)?;
+    Ok(Place {
+        address: 4 * point_word(layout, row, column),
+        width: 4,
+    })
 }

@@ -13,37 +13,19 @@ use Rattle.endian_rules.specs.declared.Order.TheVariants.{Big, Little}
 use Rattle.endian_rules.proofs.Places.{one_order, order-same}
 use Rattle.endian_rules.proofs.Signs.{signed_at_least}
 use Rattle.lists.proofs.Rows.{compared}
-use Rattle.refusal_rules.specs.Rules.{Rule, first, first_fault, Hold, FirstFailing}
+use Rattle.refusal_rules.specs.Rules.{Rule, first, first_fault, Hold, FirstFailing, Refused, Verdict, Pass, Fault}
 use Rattle.refusal_rules.specs.Answers.{Answer, gives, refuses, answered}
 use Rattle.refusal_rules.specs.Tests.{Exactly}
-use Rattle.refusal_rules.specs.declared.Refusal.{Refusal}
-use Rattle.refusal_rules.specs.declared.Verdict.{Verdict}
-use Rattle.refusal_rules.specs.declared.Verdict.TheVariants.{Pass, Fault}
-use Rattle.refusal_rules.proofs.Answers.{settled, value_exactly, refusal_exactly}
+use Rattle.refusal_rules.proofs.Answers.{value_exactly, refusal_exactly}
 use Rattle.refusal_rules.proofs.Exactness.{eq_exactly, not_exactly, within_exactly, by_numbers}
-use Rattle.refusal_rules.proofs.Tables.{pass_hold, hold_pass, first_fault-append, joined, hold-append}
+use Rattle.refusal_rules.proofs.Tables.{pass_hold, hold_pass, joined_faults, joined, hold-append}
 use Rattle.grid_rules.specs.Rules.{next_free, empty_slot, grid_end, grid_head_rules, slots_rules, grid_file_rules, wanted_rules}
 use Rattle.grid_rules.specs.Accepts.{FullSlot, GridRoom, AcceptsGridSlot, AcceptsGridFile, AcceptsGrid}
-use Rattle.grid_rules.specs.Opening.{grid_says, grid_layout_of, open_wanted, open_grid_words, open_grid, grid_numbers, same_grid}
+use Rattle.grid_rules.specs.Opening.{grid_layout_of, open_wanted, open_grid_words, open_grid, grid_numbers, same_grid}
 use Rattle.grid_rules.specs.declared.GridLayout.{GridLayout}
-use Rattle.grid_rules.specs.declared.GridOpening.{GridOpening}
-use Rattle.grid_rules.specs.declared.GridOpening.TheVariants.{Opened, Refused}
 use Rattle.grid_rules.proofs.Slots.{number-slot, head_exactly, accepted_room, slots_exactly}
 
 -- ---- answers and layouts
-
-back : Answer GridLayout → GridOpening
-back (gives l) = Opened l
-back (refuses n p) = Refused (record { number = n; place = p })
-
--- what an opening's answer says settles the answer
-pub grid_settled : (x y : GridOpening) → grid_says x ≡ grid_says y → x ≡ y
-unfolding back
-grid_settled = settled grid_says back (λ x. step x)
-  where
-    step : (x : GridOpening) → back (grid_says x) ≡ x
-    step (Opened l) = refl
-    step (Refused r) = refl
 
 -- layouts with the same numbers are the same
 numbers_settle : (a b : GridLayout) → grid_numbers a ≡ grid_numbers b → a ≡ b
@@ -79,7 +61,7 @@ pub open_split : (o : Order) (len : ℕ) (w : ℕ → ℕ) (number : ℕ) (v : V
     → open_grid_words o len w number ≡ after_verdict v (open_wanted o len w number)
 unfolding open_grid_words open_wanted
 open_split o len w number v e =
-    ap (λ (x : Verdict). answered x (grid_layout_of o len w number)) (first_fault-append (grid_file_rules len w) (wanted_rules w number))
+    ap (λ (x : Verdict). answered x (grid_layout_of o len w number)) (joined_faults (grid_file_rules len w) (wanted_rules w number))
     ∙ answered-first (first_fault (grid_file_rules len w)) (first_fault (wanted_rules w number)) (grid_layout_of o len w number)
     ∙ ap (λ (x : Verdict). after_verdict x (open_wanted o len w number)) e
 
@@ -148,7 +130,7 @@ grid_exactly o f number l =
     )
 
 -- and is refused exactly where a rule fails, with the number and place of the first
-pub grid_refused : (o : Order) (f : List ℕ) (number : ℕ) (r : Refusal)
+pub grid_refused : (o : Order) (f : List ℕ) (number : ℕ) (r : Refused)
     → (open_grid o f number ≡ refuses r.number r.place) ↔ FirstFailing (grid_file_rules (length f) (word_at o f) ++ wanted_rules (word_at o f) number) r
 unfolding open_grid open_grid_words
 grid_refused o f number r =

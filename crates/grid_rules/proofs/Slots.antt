@@ -13,13 +13,10 @@ use borrow.Author.Tests.{leb-true, le-leb, ltb-true, lt-ltb, eqb-true, eq-eqb, e
 use Rattle.endian_rules.proofs.Signs.{at_least_lem, signed_at_least}
 use Rattle.lists.specs.Choices.{either}
 use Rattle.lists.proofs.Choices.{true_either}
-use Rattle.refusal_rules.specs.Rules.{judge, first, first_fault, tabled, Hold}
+use Rattle.refusal_rules.specs.Rules.{judge, first, first_fault, tabled, Hold, Refused, Verdict, Pass, Fault}
 use Rattle.refusal_rules.specs.Tests.{Exactly}
-use Rattle.refusal_rules.specs.declared.Refusal.{Refusal}
-use Rattle.refusal_rules.specs.declared.Verdict.{Verdict}
-use Rattle.refusal_rules.specs.declared.Verdict.TheVariants.{Pass, Fault}
 use Rattle.refusal_rules.proofs.Exactness.{lt_exactly, eq_exactly, not_exactly, true_exactly, both_exactly, within_exactly}
-use Rattle.refusal_rules.proofs.Tables.{first_pass, both_pass, pass_both, pass_hold, hold_pass, first_fault-append, joined, also}
+use Rattle.refusal_rules.proofs.Tables.{first_pass, both_pass, pass_both, pass_hold, hold_pass, joined_faults, joined, also}
 use Rattle.grid_rules.specs.Rules.{next_free, empty_slot, is_empty_slot, grid_end, grid_head_rules, meets, shares, header_rules, size_rules, own_rules, overlap_rule, slot_rules, slots_rules, wanted_rules}
 use Rattle.grid_rules.specs.Accepts.{FullSlot, AcceptsGridHead, GridRoom, AcceptsGridSlot}
 
@@ -156,7 +153,7 @@ module _ (w : ℕ → ℕ) (n next : ℕ) where
   -- one slot more
   pub slots_more : (k : ℕ) → first_fault (slots_rules w n next (suc k)) ≡ first (first_fault (slots_rules w n next k)) (first_fault (slot_rules w n next k))
   unfolding slots_rules
-  slots_more k = first_fault-append (slots_rules w n next k) (slot_rules w n next k)
+  slots_more k = joined_faults (slots_rules w n next k) (slot_rules w n next k)
 
   -- slots pass together exactly where they pass one by one
   pub each_passes : (m : ℕ) → (first_fault (slots_rules w n next m) ≡ Pass) ↔ ((k : ℕ) → k < m → first_fault (slot_rules w n next k) ≡ Pass)
@@ -172,12 +169,12 @@ module _ (w : ℕ → ℕ) (n next : ℕ) where
   )
 
   -- a fault stays when slots are added
-  pub fault_stays : (k m : ℕ) (r : Refusal) → k ≤ m → first_fault (slots_rules w n next k) ≡ Fault r → first_fault (slots_rules w n next m) ≡ Fault r
+  pub fault_stays : (k m : ℕ) (r : Refused) → k ≤ m → first_fault (slots_rules w n next k) ≡ Fault r → first_fault (slots_rules w n next m) ≡ Fault r
   unfolding first
   fault_stays k m r l e = le_ind (λ (i : ℕ). first_fault (slots_rules w n next i) ≡ Fault r) e (λ i h p. slots_more i ∙ rw p) m l
 
   -- so that the fault of the first slot that has one is the fault of them all
-  pub fault_at : (k m : ℕ) (r : Refusal) → k < m → first_fault (slots_rules w n next k) ≡ Pass → first_fault (slot_rules w n next k) ≡ Fault r
+  pub fault_at : (k m : ℕ) (r : Refused) → k < m → first_fault (slots_rules w n next k) ≡ Pass → first_fault (slot_rules w n next k) ≡ Fault r
       → first_fault (slots_rules w n next m) ≡ Fault r
   unfolding first
   fault_at k m r l before here = fault_stays (suc k) m r l (slots_more k ∙ rw (before, here))

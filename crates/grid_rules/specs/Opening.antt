@@ -4,17 +4,10 @@ use Rattle.std.specs.Prelude.{Bool, List, [], ◌∷◌, ◌++◌, ℕ, ◌+◌,
 use Rattle.endian_rules.specs.Words.{word_at, order_number}
 use Rattle.endian_rules.specs.declared.Order.{Order}
 use Rattle.refusal_rules.specs.Rules.{first_fault}
-use Rattle.refusal_rules.specs.Answers.{Answer, gives, refuses, answered}
+use Rattle.refusal_rules.specs.Answers.{Answer, answered}
 use Rattle.refusal_rules.specs.Tests.{same_numbers}
 use Rattle.grid_rules.specs.Rules.{grid_file_rules, wanted_rules}
 use Rattle.grid_rules.specs.declared.GridLayout.{GridLayout}
-use Rattle.grid_rules.specs.declared.GridOpening.{GridOpening}
-use Rattle.grid_rules.specs.declared.GridOpening.TheVariants.{Opened, Refused}
-
--- what each case of the answer of opening a GRID file says
-abbrev pub grid_says : GridOpening → Answer GridLayout
-grid_says (Opened l) = gives l
-grid_says (Refused r) = refuses r.number r.place
 
 -- the layout of a grid that the words of a file of `len` bytes give: "grid number, offset, rows, columns"
 unfoldable pub grid_layout_of : Order → ℕ → (ℕ → ℕ) → ℕ → GridLayout

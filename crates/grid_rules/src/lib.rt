@@ -3,11 +3,10 @@
 #![tactic(auto)]
 
 use endian_rules::Order;
-use refusal_rules::Refusal;
 
 // What opening a grid finds: the byte order in which the file was opened and its length in bytes, the number of the grid; and as raw words
 // its offset, in words, and its rows and columns. "Layout" is document 01's term.
-#[derive(Clone, Copy)]
+#[derive(Clone, Copy, Debug, PartialEq, Eq)]
 pub struct GridLayout {
     pub order: Order,
     pub length: usize,
@@ -17,12 +16,5 @@ pub struct GridLayout {
     pub columns: u32,
 }
 
-// -1 as a raw word: the offset of an empty slot.
+// -1 as a raw word: the offset of an empty slot. A constant, since it is a word of the file.
 pub const EMPTY_SLOT: u32 = 4294967295;
-
-// What opening a grid answers: its layout, or a refusal.
-#[derive(Clone, Copy)]
-pub enum GridOpening {
-    Opened(GridLayout),
-    Refused(Refusal),
-}

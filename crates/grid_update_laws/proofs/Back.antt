@@ -17,9 +17,8 @@ use Rattle.lists.proofs.Stores.{sets-inside}
 use Rattle.endian_rules.specs.Words.{word_at}
 use Rattle.endian_rules.specs.Files.{bytes_of}
 use Rattle.endian_rules.specs.declared.Order.{Order}
-use Rattle.refusal_rules.specs.Rules.{first_fault}
+use Rattle.refusal_rules.specs.Rules.{first_fault, Pass}
 use Rattle.refusal_rules.specs.Answers.{Answer, gives, mapped}
-use Rattle.refusal_rules.specs.declared.Verdict.TheVariants.{Pass}
 use Rattle.grid_rules.specs.Points.{header_word, IsPoint}
 use Rattle.grid_rules.proofs.Points.{point_among}
 use Rattle.grid_rules.specs.Opening.{open_grid}

@@ -6,10 +6,8 @@ use Prim.Native.Nat.{ℕ}
 use lib.IntN.{ℤ}
 use lib.ListN.{length}
 use Rattle.endian_rules.specs.declared.Order.{Order}
-use Rattle.refusal_rules.specs.Rules.{first_fault}
+use Rattle.refusal_rules.specs.Rules.{first_fault, Verdict, Pass, Fault}
 use Rattle.refusal_rules.specs.Answers.{gives}
-use Rattle.refusal_rules.specs.declared.Verdict.{Verdict}
-use Rattle.refusal_rules.specs.declared.Verdict.TheVariants.{Pass, Fault}
 use Rattle.refusal_rules.proofs.Answers.{gives-refuses, gives-same}
 use Rattle.grid_rules.specs.declared.GridLayout.{GridLayout}
 use Rattle.extent_rules.specs.declared.Extent.{Extent}

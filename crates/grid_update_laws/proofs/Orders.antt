@@ -12,10 +12,9 @@ use Rattle.endian_rules.specs.Words.{word_at, order_number}
 use Rattle.endian_rules.specs.declared.Order.{Order}
 use Rattle.endian_rules.specs.declared.Order.TheVariants.{Big, Little}
 use Rattle.endian_rules.proofs.Places.{one_order, order-same}
-use Rattle.refusal_rules.specs.Rules.{judge, first, first_fault}
+use Rattle.refusal_rules.specs.Rules.{judge, first, first_fault, Fault}
 use Rattle.refusal_rules.specs.Answers.{refuses}
 use Rattle.refusal_rules.specs.Tests.{within}
-use Rattle.refusal_rules.specs.declared.Verdict.TheVariants.{Fault}
 use Rattle.refusal_rules.proofs.Answers.{gives-refuses}
 use Rattle.refusal_rules.proofs.Exactness.{within_exactly}
 use Rattle.grid_rules.specs.Rules.{grid_head_rules}

@@ -9,9 +9,8 @@ use lib.IntN.{ℤ}
 use lib.ListN.{length}
 use Rattle.endian_rules.specs.Words.{word_at}
 use Rattle.endian_rules.specs.declared.Order.{Order}
-use Rattle.refusal_rules.specs.Rules.{first_fault}
+use Rattle.refusal_rules.specs.Rules.{first_fault, Pass}
 use Rattle.refusal_rules.specs.Answers.{Answer, gives, refuses, mapped}
-use Rattle.refusal_rules.specs.declared.Verdict.TheVariants.{Pass}
 use Rattle.refusal_rules.proofs.Answers.{gives-refuses}
 use Rattle.grid_rules.proofs.Facts.{InFile, in_file}
 use Rattle.grid_rules.specs.Rules.{grid_end}

@@ -24,10 +24,9 @@ use Rattle.lists.proofs.Stores.{Where, inside, outside, where_is, sets-inside}
 use Rattle.endian_rules.specs.Words.{signed_at, word_at}
 use Rattle.endian_rules.specs.declared.Order.{Order}
 use Rattle.endian_rules.proofs.Places.{word_number}
-use Rattle.refusal_rules.specs.Rules.{Rule, first_fault, Hold}
+use Rattle.refusal_rules.specs.Rules.{Rule, first_fault, Hold, Pass}
 use Rattle.refusal_rules.specs.Answers.{gives}
 use Rattle.refusal_rules.specs.Tests.{Exactly}
-use Rattle.refusal_rules.specs.declared.Verdict.TheVariants.{Pass}
 use Rattle.refusal_rules.proofs.Exactness.{le_exactly, lt_exactly, eq_exactly, within_exactly}
 use Rattle.refusal_rules.proofs.Tables.{pass_hold, hold_pass, hold-append, also}
 use Rattle.grid_rules.specs.Rules.{empty_slot, is_empty_slot, grid_end, meets, grid_file_rules}

@@ -2,14 +2,16 @@
 -- Assumes nothing.
 use mathlib.Core.Path.{◌≡◌, refl, sym, ap, ◌∙◌}
 use mathlib.Core.List.{List, [], ◌∷◌, ◌++◌, map, map-append, append_assoc, append-nil}
-use Prim.Native.Nat.{ℕ, ◌+◌, ◌*◌, ◌<◌}
+use Prim.Native.Nat.{ℕ, ◌+◌, ◌*◌, ◌≤◌, ◌<◌}
 use native.Mathlib.Numerals.{add-one}
 use native.Mathlib.Omega.{arith}
 use lib.IntN.{ℤ}
-use lib.ListN.{length, get_or, set, take, drop, length-append, length-drop, length-map}
-use lib.Seq.{sets, length-take-le, take-suc}
+use lib.ListN.{length, get_or, take, drop, length-append, length-drop, length-map}
+use lib.Seq.{sets, sets-eq, length-take-le, take-suc, take_all}
+use borrow.Rule.Slice.PartMut.{put_mid}
 use mir.Syntax.{w32}
 use mir.Val.{of_z}
+use Rattle.std.proofs.lemmas.Slice.{put_mid-paste}
 use Rattle.lists.proofs.Stores.{sets-append}
 use Rattle.endian_rules.specs.Numbers.{encode}
 use Rattle.endian_rules.specs.Words.{encode_signed}
@@ -29,11 +31,12 @@ module _ {A : Type 0} (l : List A) (a : ℕ) {g h : List A} where
       ∙ ap (λ (m : ℕ). sets (sets l a b) (a + m) c) (sym long)
       ∙ sym (sets-append b c l a)
 
-  -- the first i elements of a list, and element i
-  pub element-behind : (b : List A) (i : ℕ) (d : A) → i < length b → g ≡ sets l a (take i b) → h ≡ set g (a + i) (get_or b i d) → h ≡ sets l a (take (i + 1) b)
-  element-behind b i d here before e =
-      stored_behind (take i b) (get_or b i d ∷ []) i before e (length-take-le i b (omega (arith, here)))
-      ∙ ap (sets l a) (sym (take-suc b i d here) ∙ ap (λ (k : ℕ). take k b) (sym (add-one i)))
+-- a part of a list that a list is copied into
+pub put_part : {A : Type 0} (l part b : List A) (a k : ℕ) → part ≡ b → length b ≡ k → a + k ≤ length l → put_mid a k l part ≡ sets l a b
+put_part {A = A} l part b a k same long room =
+    put_mid-paste a k l part b (length b) same long refl
+    ∙ ap (λ (c : List A). take a l ++ c ++ drop (a + length b) l) (take_all (length b) b (omega arith))
+    ∙ sym (sets-eq b l a (omega (arith, long, room)))
 
 -- ---- the bytes of words
 

@@ -10,32 +10,30 @@ use native.Mathlib.Omega.{arith}
 use borrow.Author.Tests.{lt-ltb}
 use lib.IntN.{ℤ}
 use lib.ListN.{length}
+use Rattle.std.specs.Prelude.{Result, Ok, Err}
 use Rattle.lists.specs.Lists.{list_of, over}
 use Rattle.lists.proofs.Built.{length-list_of, get_or-list_of}
 use Rattle.lists.proofs.Filled.{length-over, over_front, over_again}
 use Rattle.endian_rules.specs.Words.{word_at}
 use Rattle.endian_rules.specs.declared.Order.{Order}
-use Rattle.refusal_rules.specs.Rules.{first_fault}
-use Rattle.refusal_rules.specs.Answers.{Answer, gives, refuses, size_says}
-use Rattle.refusal_rules.specs.declared.Verdict.{Verdict}
-use Rattle.refusal_rules.specs.declared.Verdict.TheVariants.{Pass, Fault}
+use Rattle.refusal_rules.specs.Rules.{first_fault, Refused, Verdict, Pass, Fault}
+use Rattle.refusal_rules.specs.Answers.{Answer, gives, refuses}
+use Rattle.refusal_rules.specs.declared.Refusal.{Refusal}
 use Rattle.refusal_rules.proofs.Answers.{gives-same, gives-refuses}
-use Rattle.refusal_rules.proofs.Tables.{fault_pass}
 use Rattle.extent_rules.specs.Stretches.{no_words}
 use Rattle.extent_rules.specs.Rooms.{first_fitting, searched}
 use Rattle.extent_rules.specs.Steps.{GridAccepted, nth_run, runs_over}
 use Rattle.extent_rules.specs.declared.Extent.{Extent}
 use Rattle.extent_rules.proofs.Runs.{stretches_listed, stretches_few, stretches_more}
 use Rattle.extent_rules.proofs.Fit.{searched-room}
-use Rattle.grid_update_rules.specs.Updates.{add_says, stretches_of, answer_and_table, file_left, changed, stretch_rules, tell_stretches, delete_rules, without_grid, delete_grid, grid_words, address_for, add_rules, with_grid, added, add_grid}
+use Rattle.grid_update_rules.specs.Updates.{stretches_of, answer_and_table, file_left, changed, stretch_rules, tell_stretches, delete_rules, without_grid, delete_grid, grid_words, address_for, add_rules, with_grid, added, add_grid}
 use Rattle.grid_update_rules.proofs.Deleted.{delete_passes, deleted_accepted, deleted_count}
-use Rattle.grid_update_rules.proofs.Addition.{AddAsked, AddPasses, add_passes, added-length, added_accepted, added_count, added_starts}
+use Rattle.grid_update_rules.proofs.Addition.{AddPasses, add_passes, added-length, added_accepted, added_count, added_starts}
 use Rattle.grid_update_rules.proofs.Exact.{tell_passes}
-use Rattle.grid_update_rules.specs.Steps.{stretch_says, addition_says, counted_stretches, stepped, tell_step, delete_step, planned, add_plan, add_step, Ready}
+use Rattle.grid_update_rules.specs.Steps.{stretch_says, addition_says, counted_stretches, stepped, tell_step, delete_step, refused_plan, plan_of, add_plan, add_step, Ready}
+use Rattle.grid_update_rules.proofs.Plans.{plan_is, plan_refuses}
 use Rattle.grid_update_rules.specs.declared.Added.{Added}
-use Rattle.grid_update_rules.specs.declared.StretchStep.{StretchStep}
 use Rattle.grid_update_rules.specs.declared.AddPlan.{AddPlan}
-use Rattle.grid_update_rules.specs.declared.AdditionStep.{AdditionStep}
 
 -- the first `count` runs of free words of a file
 abbrev runs : Order → List ℕ → ℕ → List Extent
@@ -45,6 +43,9 @@ runs o g count = list_of (λ i. nth_run o g (suc i)) count
 runs_none : (o : Order) (g : List ℕ) (t : List Extent) → runs_over o g 0 t ≡ t
 unfolding list_of
 runs_none o g t = refl
+
+none_filled : (o : Order) (g : List ℕ) (count : ℕ) (t : List Extent) → count ≡ 0 → t ≡ runs_over o g count t
+none_filled o g count t none = sym (runs_none o g t) ∙ ap (λ (n : ℕ). runs_over o g n t) (sym none)
 
 -- what filling `count` places of a table of `size` pairs from a file asks
 abbrev Fillable : Order → List ℕ → ℕ → ℕ → Type 0
@@ -98,7 +99,7 @@ file-same : (v : Verdict) (f : List ℕ) → file_left v f f ≡ f
 file-same Pass f = refl
 file-same (Fault r) f = refl
 
-module _ (o : Order) (f : List ℕ) (t : List Extent) (d : StretchStep) (e : stretch_says d ≡ tell_step o f (length t)) where
+module _ (o : Order) (f : List ℕ) (t : List Extent) (d : Result ℕ Refusal) (e : stretch_says d ≡ tell_step o f (length t)) where
   -- what was said is what the call wants
   tells : Carried (first_fault (stretch_rules o f (length t))) (λ count. count) o f f (length t) (stretch_says d, f)
   unfolding tell_step
@@ -109,13 +110,17 @@ module _ (o : Order) (f : List ℕ) (t : List Extent) (d : StretchStep) (e : str
       (carried v (λ count. count) o f f (length t) (tell_changed o f (length t)))
 
   -- the places that are to be filled are in the table, and the file is accepted if there are any
-  pub tell_may_fill : (d.count ≤ length t) × (0 < d.count → GridAccepted o f)
+  pub tell_may_fill : ((stretch_says d).1 ≤ length t) × (0 < (stretch_says d).1 → GridAccepted o f)
   tell_may_fill = tells.may_fill
 
   -- once they are filled, answer and table are those of the call
-  pub tell_done : (size_says d.answer, runs_over o f d.count t) ≡ tell_stretches o f t
+  pub tell_done : ((stretch_says d).0, runs_over o f (stretch_says d).1 t) ≡ tell_stretches o f t
   unfolding tell_stretches
   tell_done = ap (λ (x : Answer ℕ × (List ℕ × List Extent)). (x.0, x.1.1)) (tells.done t)
+
+  -- where none is to be filled, the table as it was is that of the call
+  pub tell_kept : (stretch_says d).1 ≡ 0 → ((stretch_says d).0, t) ≡ tell_stretches o f t
+  tell_kept none = ap (λ (u : List Extent). ((stretch_says d).0, u)) (none_filled o f (stretch_says d).1 t none) ∙ tell_done
 
 -- ---- deleting
 
@@ -127,7 +132,7 @@ delete_changed o f number size ok =
       table = omega (arith, deleted_count o f number size ok, ((delete_passes o f number size).0 ok).table);
     }
 
-module _ (o : Order) (f : List ℕ) (number : ℕ) (t : List Extent) (d : StretchStep) (g : List ℕ) (e : (stretch_says d, g) ≡ delete_step o f number (length t)) where
+module _ (o : Order) (f : List ℕ) (number : ℕ) (t : List Extent) (d : Result ℕ Refusal) (g : List ℕ) (e : (stretch_says d, g) ≡ delete_step o f number (length t)) where
   -- what was said and left is what the call wants
   deletes : Carried (first_fault (delete_rules o f number (length t))) (λ count. count) o f (without_grid o f number) (length t) (stretch_says d, g)
   unfolding delete_step
@@ -137,73 +142,55 @@ module _ (o : Order) (f : List ℕ) (number : ℕ) (t : List Extent) (d : Stretc
       subst (Carried v (λ count. count) o f h (length t)) (sym e) (carried v (λ count. count) o f h (length t) (delete_changed o f number (length t)))
 
   -- after deleting, the places that are to be filled are in the table, and the file is accepted if there are any
-  pub delete_may_fill : (d.count ≤ length t) × (0 < d.count → GridAccepted o g)
+  pub delete_may_fill : ((stretch_says d).1 ≤ length t) × (0 < (stretch_says d).1 → GridAccepted o g)
   delete_may_fill = deletes.may_fill
 
   -- once they are filled, answer, file and table are those of the call
-  pub delete_done : (size_says d.answer, (g, runs_over o g d.count t)) ≡ delete_grid o f number t
+  pub delete_done : ((stretch_says d).0, (g, runs_over o g (stretch_says d).1 t)) ≡ delete_grid o f number t
   unfolding delete_grid
   delete_done = deletes.done t
 
+  -- where none is to be filled, the table as it was is that of the call
+  pub delete_kept : (stretch_says d).1 ≡ 0 → ((stretch_says d).0, (g, t)) ≡ delete_grid o f number t
+  delete_kept none = ap (λ (u : List Extent). ((stretch_says d).0, (g, u))) (none_filled o g (stretch_says d).1 t none) ∙ delete_done
+
 -- ---- adding: the plan
 
--- the places that a plan fills, by the verdict of the rules
-planned_may_fill : (o : Order) (f : List ℕ) (rows columns size : ℕ) (v : Verdict)
-    → (v ≡ Pass → GridAccepted o f × (length (stretches_of o f) ≤ size)) → Fillable o f size (planned v o f rows columns).count
-planned_may_fill o f rows columns size Pass h = (omega (arith, (h refl).1), λ some. (h refl).0)
-planned_may_fill o f rows columns size (Fault r) h = none_fillable o f size
-
--- the places that are to be filled before the search are in the table, and the file is accepted if there are any
+-- the places that are to be filled before the search are in the table, and the file is accepted
 pub plan_may_fill : (o : Order) (f : List ℕ) (headers rows columns values : ℕ) (t : List Extent) (p : AddPlan)
-    → p ≡ add_plan o f headers rows columns values (length t) → (p.count ≤ length t) × (0 < p.count → GridAccepted o f)
-unfolding add_plan
+    → gives p ≡ add_plan o f headers rows columns values (length t) → (p.count ≤ length t) × (0 < p.count → GridAccepted o f)
 plan_may_fill o f headers rows columns values t p e =
-    subst (λ (q : AddPlan). Fillable o f (length t) q.count) (sym e)
-    (planned_may_fill o f rows columns (length t) (first_fault (add_rules o f headers rows columns values (length t))) (λ ok. asked (passes ok).asked))
-  where
-    passes : first_fault (add_rules o f headers rows columns values (length t)) ≡ Pass → AddPasses o f headers rows columns values (length t)
-    passes = (add_passes o f headers rows columns values (length t)).0
+    let is = plan_is o f headers rows columns values (length t) p e in
+    let asked = ((add_passes o f headers rows columns values (length t)).0 is.0).asked in
+    (omega (arith, ap (λ (q : AddPlan). q.count) is.1, table_room o f (length t) asked.table), λ some. asked.accepted)
 
-    asked : AddAsked o f headers rows columns values (length t) → GridAccepted o f × (length (stretches_of o f) ≤ length t)
-    asked a = (a.accepted, table_room o f (length t) a.table)
-
--- that, where a plan passes, what a search of the table finds, filled as the plan says, or else the last stretch, begins at the lowest address
-abbrev Finds : Order → List ℕ → ℕ → ℕ → List Extent → AddPlan → Type 0
-Finds o f rows columns t p =
-    p.verdict ≡ Pass
-    → (first_fitting p.need (searched (runs_over o f p.count t) p.need p.count) p.last).start ≡ address_for o f (grid_words rows columns)
-
-module _ (o : Order) (f : List ℕ) (headers rows columns values : ℕ) (t : List Extent) where
-  -- it does, by the verdict of the rules
-  planned_finds : (v : Verdict) → (v ≡ Pass → AddPasses o f headers rows columns values (length t)) → Finds o f rows columns t (planned v o f rows columns)
-  planned_finds Pass h pass =
-      let n : ℕ = length (stretches_of o f) in
-      let x : AddPasses o f headers rows columns values (length t) = h refl in
-      searched-room o f x.asked.accepted (grid_words rows columns) (omega arith)
-      (lt-ltb (address_for o f (grid_words rows columns)) (length f / 4) x.room)
-      (runs_over o f (n - 1) t) n refl
-      (λ i l.
-      over_front (runs o f (n - 1)) t i no_words (rw (length-list_of (λ k. nth_run o f (suc k)) (n - 1)) l)
-      ∙ get_or-list_of (λ k. nth_run o f (suc k)) (n - 1) i no_words l)
-  planned_finds (Fault r) h pass = fault_pass r pass
+-- what a search of the table finds, filled as the plan says, or else the last stretch, begins at the lowest address
+planned_finds : (o : Order) (f : List ℕ) (headers rows columns values : ℕ) (t : List Extent) → AddPasses o f headers rows columns values (length t)
+    → let p = plan_of o f rows columns in
+    (first_fitting p.need (searched (runs_over o f p.count t) p.need p.count) p.last).start ≡ address_for o f (grid_words rows columns)
+planned_finds o f headers rows columns values t x =
+    let n : ℕ = length (stretches_of o f) in
+    searched-room o f x.asked.accepted (grid_words rows columns) (omega arith)
+    (lt-ltb (address_for o f (grid_words rows columns)) (length f / 4) x.room)
+    (runs_over o f (n - 1) t) n refl
+    (λ i l.
+    over_front (runs o f (n - 1)) t i no_words (rw (length-list_of (λ k. nth_run o f (suc k)) (n - 1)) l)
+    ∙ get_or-list_of (λ k. nth_run o f (suc k)) (n - 1) i no_words l)
 
 -- what was found in the table, filled as the plan says, makes the plan ready
 pub plan_ready : (o : Order) (f header : List ℕ) (rows columns : ℕ) (values : List ℤ) (t : List Extent) (p : AddPlan) (e : Extent)
-    → p ≡ add_plan o f (length header) rows columns (length values) (length t)
+    → gives p ≡ add_plan o f (length header) rows columns (length values) (length t)
     → e ≡ searched (runs_over o f p.count t) p.need p.count
-    → Ready o f header rows columns values (length t) p e
-unfolding add_plan
-plan_ready o f header rows columns values t p e is found =
+    → Ready o f header rows columns values (length t) (Ok p) e
+plan_ready o f header rows columns values t p e given found =
+    let is = plan_is o f (length header) rows columns (length values) (length t) p given in
     record {
-      planned = is;
-      address =
-          λ pass.
-          subst (λ (x : Extent). (first_fitting p.need x p.last).start ≡ address_for o f (grid_words rows columns)) (sym found)
-          (subst (Finds o f rows columns t) (sym is)
+      planned = given;
+      address = λ q same.
+          let this : q ≡ p = cc in
+          rw (this, found, is.1)
           (planned_finds o f (length header) rows columns (length values) t
-          (first_fault (add_rules o f (length header) rows columns (length values) (length t)))
-          (add_passes o f (length header) rows columns (length values) (length t)).0)
-          pass);
+          ((add_passes o f (length header) rows columns (length values) (length t)).0 is.0));
     }
 
 -- ---- adding
@@ -227,19 +214,22 @@ module _ (o : Order) (f header : List ℕ) (rows columns : ℕ) (values : List �
       (stretches_more (word_at o f) (word_at o (with_grid o f header rows columns values)) (length f / 4) (address_for o f (grid_words rows columns))
       (sym (added_count o f header rows columns values size ok)) (added_starts o f header rows columns values size ok))
 
--- the last filling covers the first, where at most one free stretch is gone
-changed_again : {Value : Type 0} (v : Verdict) (value : ℕ → Value) (o : Order) (f g : List ℕ) (rows columns : ℕ) (t : List Extent)
-    → (v ≡ Pass → length (stretches_of o f) ≤ length (stretches_of o g) + 1)
-    → changed v value o f g (runs_over o f (planned v o f rows columns).count t) ≡ changed v value o f g t
-changed_again Pass value o f g rows columns t h =
-    ap (λ (u : List Extent). (gives (value (length (stretches_of o g))), (g, u)))
-    (over_again (stretches_of o g) (runs o f (length (stretches_of o f) - 1)) t
-    (omega (arith, h refl, length-list_of (λ i. nth_run o f (suc i)) (length (stretches_of o f) - 1))))
-changed_again (Fault r) value o f g rows columns t h =
-    ap (λ (u : List Extent). (refuses r.number r.place, (file_left (Fault r) f g, u))) (runs_none o f t)
-
 module _ (o : Order) (f header : List ℕ) (rows columns : ℕ) (values : List ℤ) (t : List Extent) where
-  module _ (a : AdditionStep) (g : List ℕ) (e : (addition_says a, g) ≡ add_step o f header rows columns values (length t)) where
+  -- a plan that is refused is the refusal of the call, which leaves file and table as they were
+  pub add_refused : (r : Refused) → refused_plan r ≡ add_plan o f (length header) rows columns (length values) (length t)
+      → (refuses r.number r.place, (f, t)) ≡ add_grid o f header rows columns values t
+  unfolding add_grid
+  add_refused r e = rw (plan_refuses o f (length header) rows columns (length values) (length t) r e)
+
+  -- a plan that is given is carried out, and not refused
+  pub add_allowed {ℓ} : {A : Type ℓ} (p : AddPlan) (r : Refusal) (g : List ℕ) → gives p ≡ add_plan o f (length header) rows columns (length values) (length t)
+      → (addition_says (Err r), g) ≡ add_step o f header rows columns values (length t) → A
+  unfolding add_step
+  add_allowed p r g given e =
+      let is = plan_is o f (length header) rows columns (length values) (length t) p given in
+      gives-refuses (sym (ap (λ (x : (Answer Added × ℕ) × List ℕ). x.0.0) (rw is.0 at e)))
+
+  module _ (a : Result Added Refusal) (g : List ℕ) (e : (addition_says a, g) ≡ add_step o f header rows columns values (length t)) where
     -- what was said and left is what the call wants
     adds : Carried (first_fault (add_rules o f (length header) rows columns (length values) (length t))) (added o f rows columns) o f
         (with_grid o f header rows columns values) (length t) (addition_says a, g)
@@ -251,20 +241,22 @@ module _ (o : Order) (f header : List ℕ) (rows columns : ℕ) (values : List �
         (carried v (added o f rows columns) o f h (length t) (add_changed o f header rows columns values (length t)))
 
     -- after adding, the places that are to be filled are in the table, and the file is accepted if there are any
-    pub add_may_fill : (a.count ≤ length t) × (0 < a.count → GridAccepted o g)
+    pub add_may_fill : ((addition_says a).1 ≤ length t) × (0 < (addition_says a).1 → GridAccepted o g)
     add_may_fill = adds.may_fill
 
   -- once they are filled, in the table that was filled for the search, answer, file and table are those of the call
-  pub add_done : (p : AddPlan) (a : AdditionStep) (g : List ℕ) → p ≡ add_plan o f (length header) rows columns (length values) (length t)
+  pub add_done : (p : AddPlan) (a : Result Added Refusal) (g : List ℕ) → gives p ≡ add_plan o f (length header) rows columns (length values) (length t)
       → (addition_says a, g) ≡ add_step o f header rows columns values (length t)
-      → (add_says a.answer, (g, runs_over o g a.count (runs_over o f p.count t))) ≡ add_grid o f header rows columns values t
-  unfolding add_grid add_plan
-  add_done p a g is e =
-      let v : Verdict = first_fault (add_rules o f (length header) rows columns (length values) (length t)) in
+      → ((addition_says a).0, (g, runs_over o g (addition_says a).1 (runs_over o f p.count t))) ≡ add_grid o f header rows columns values t
+  unfolding add_grid
+  add_done p a g given e =
+      let is = plan_is o f (length header) rows columns (length values) (length t) p given in
       let h : List ℕ = with_grid o f header rows columns values in
+      let n : ℕ = length (stretches_of o f) - 1 in
       (adds a g e).done (runs_over o f p.count t)
-      ∙ ap (λ (q : AddPlan). changed v (added o f rows columns) o f h (runs_over o f q.count t)) is
-      ∙ changed_again v (added o f rows columns) o f h rows columns t (add_fewer o f header rows columns values (length t))
+      ∙ rw (is.0, is.1) (ap (λ (u : List Extent). (gives (added o f rows columns (length (stretches_of o h))), (h, u)))
+      (over_again (stretches_of o h) (runs o f n) t
+      (omega (arith, add_fewer o f header rows columns values (length t) is.0, length-list_of (λ i. nth_run o f (suc i)) n))))
 
 -- ---- after a call
 

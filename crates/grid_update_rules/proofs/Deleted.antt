@@ -12,10 +12,9 @@ use borrow.Author.Tests.{eq-eqb}
 use Rattle.lists.specs.Lists.{Outside}
 use Rattle.endian_rules.specs.Words.{word_at}
 use Rattle.endian_rules.specs.declared.Order.{Order}
-use Rattle.refusal_rules.specs.Rules.{Rule, judge, first, first_fault}
+use Rattle.refusal_rules.specs.Rules.{Rule, judge, first, first_fault, Pass}
 use Rattle.refusal_rules.specs.Answers.{refuses}
 use Rattle.refusal_rules.specs.Tests.{within}
-use Rattle.refusal_rules.specs.declared.Verdict.TheVariants.{Pass}
 use Rattle.refusal_rules.proofs.Exactness.{le_exactly, within_exactly}
 use Rattle.refusal_rules.proofs.Tables.{pass_hold, hold_pass, pass_joined, joined_pass}
 use Rattle.grid_rules.specs.Rules.{empty_slot, grid_end, grid_file_rules, wanted_rules}

@@ -3,7 +3,7 @@
 -- Assumes nothing.
 use mathlib.Core.Path.{◌≡◌, refl, sym, ap, subst, ◌∙◌}
 use mathlib.Core.Bool.{Bool, true, false, false≢true}
-use mathlib.Core.Logic.{◌⊎◌, inl, inr, ⊎_elim, ◌↔◌}
+use mathlib.Core.Logic.{inl, inr, ⊎_elim, ◌↔◌}
 use mathlib.Core.List.{List, [], ◌∷◌, ◌++◌}
 use Prim.Native.Nat.{ℕ, zero, suc, ◌+◌, ◌-◌, ◌*◌, ◌/◌, ◌≤◌, ◌<◌}
 use native.Mathlib.Omega.{arith}
@@ -15,11 +15,8 @@ use Rattle.lists.proofs.Choices.{pick_cases}
 use Rattle.lists.proofs.Lowest.{lowest_is}
 use Rattle.endian_rules.specs.Words.{word_at}
 use Rattle.endian_rules.specs.declared.Order.{Order}
-use Rattle.refusal_rules.specs.Rules.{Rule, rule, judge, first, first_fault, tabled, Every}
+use Rattle.refusal_rules.specs.Rules.{Rule, rule, judge, first, first_fault, tabled, Every, Refused, Verdict, Pass, Fault}
 use Rattle.refusal_rules.specs.Answers.{gives, refuses, answered}
-use Rattle.refusal_rules.specs.declared.Refusal.{Refusal}
-use Rattle.refusal_rules.specs.declared.Verdict.{Verdict}
-use Rattle.refusal_rules.specs.declared.Verdict.TheVariants.{Pass, Fault}
 use Rattle.refusal_rules.proofs.Answers.{gives-same, gives-refuses, refuses-same, never_refused}
 use Rattle.refusal_rules.proofs.Exactness.{le_exactly, within_exactly}
 use Rattle.refusal_rules.proofs.Tables.{fault_pass, pass_hold, hold_pass, joined, pass_joined, joined_pass, every_both}
@@ -92,13 +89,13 @@ slot-lowest w j l e =
 -- ---- what a call refuses
 
 -- what a call refuses is the fault of its rules
-changed_fault : {Value : Type 0} (v : Verdict) (value : ℕ → Value) (o : Order) (f g : List ℕ) (t : List Extent) (r : Refusal)
+changed_fault : {Value : Type 0} (v : Verdict) (value : ℕ → Value) (o : Order) (f g : List ℕ) (t : List Extent) (r : Refused)
     → ((changed v value o f g t).0 ≡ refuses r.number r.place) ↔ (v ≡ Fault r)
 changed_fault Pass value o f g t r = (λ e. gives-refuses e, λ e. fault_pass r (sym e))
 changed_fault (Fault s) value o f g t r = (λ e. ap Fault (refuses-same e), λ e. ap (λ (v : Verdict). (changed v value o f g t).0) e)
 
 -- a refusal at place 0
-abbrev refusal : ℕ → Refusal
+abbrev refusal : ℕ → Refused
 refusal number = record { number = number; place = 0 }
 
 -- ---- a table that is too short
@@ -250,7 +247,7 @@ add_decided o f headers rows columns values size a =
 
 module _ (o : Order) (f header : List ℕ) (rows columns : ℕ) (values : List ℤ) (t : List Extent)
     (asked : AddAsked o f (length header) rows columns (length values) (length t)) where
-  add_refused : (r : Refusal) → ((add_grid o f header rows columns values t).0 ≡ refuses r.number r.place)
+  add_refused : (r : Refused) → ((add_grid o f header rows columns values t).0 ≡ refuses r.number r.place)
       ↔ (first_fault (last_rules (ltb (lowest_empty (word_at o f)) (word_at o f 10)) (has_room (word_at o f) (length f / 4) (grid_words rows columns))) ≡ Fault r)
   unfolding add_grid
   add_refused r =

@@ -16,7 +16,7 @@ use Rattle.lists.specs.Lists.{Outside}
 use Rattle.endian_rules.specs.Words.{word_at}
 use Rattle.endian_rules.specs.declared.Order.{Order}
 use Rattle.endian_rules.proofs.Signs.{signed_at_least}
-use Rattle.refusal_rules.specs.declared.Verdict.TheVariants.{Pass}
+use Rattle.refusal_rules.specs.Rules.{Pass}
 use Rattle.grid_rules.specs.Rules.{next_free, empty_slot, is_empty_slot, grid_end}
 use Rattle.grid_rules.specs.Accepts.{FullSlot, AcceptsGridFile}
 use Rattle.grid_rules.specs.Opening.{open_grid}

@@ -4,9 +4,9 @@ pub mod Deleted
 pub mod GridBytes
 pub mod Addition
 pub mod Exact
-pub mod Answers
 pub mod Worked
 pub mod Verdicts
 pub mod Plans
+pub mod Deleting
 pub mod Bytes
 pub mod Calls

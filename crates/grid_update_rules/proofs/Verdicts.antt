@@ -1,4 +1,4 @@
--- The rules of telling the free stretches, and of deleting and adding a grid, as the functions apply them: those of the file first.
+-- The rules of telling the free stretches, and of deleting and adding a grid, those of the file first; and what each call leaves, by the verdict of its rules.
 -- Assumes nothing.
 use mathlib.Core.Path.{◌≡◌, refl, ap, ◌∙◌}
 use mathlib.Core.Bool.{not}
@@ -8,12 +8,9 @@ use lib.Dec.{eqb}
 use lib.ListN.{length}
 use Rattle.endian_rules.specs.Words.{word_at}
 use Rattle.endian_rules.specs.declared.Order.{Order}
-use Rattle.refusal_rules.specs.Rules.{Rule, rule, judge, first, first_fault, chained}
+use Rattle.refusal_rules.specs.Rules.{Refused, Verdict, Pass, Fault, Rule, rule, judge, first, first_fault, chained}
 use Rattle.refusal_rules.specs.Answers.{gives, refuses}
 use Rattle.refusal_rules.specs.Tests.{within}
-use Rattle.refusal_rules.specs.declared.Refusal.{Refusal}
-use Rattle.refusal_rules.specs.declared.Verdict.{Verdict}
-use Rattle.refusal_rules.specs.declared.Verdict.TheVariants.{Pass, Fault}
 use Rattle.refusal_rules.proofs.Tables.{fault_joined, pass_joined, by_table}
 use Rattle.grid_rules.specs.Rules.{empty_slot, grid_file_rules, wanted_rules}
 use Rattle.extent_rules.specs.Steps.{GridAccepted, survey}
@@ -25,7 +22,7 @@ use Rattle.grid_update_rules.specs.Steps.{counted_stretches, stepped}
 
 module _ (o : Order) (f : List ℕ) (size : ℕ) where
   -- a fault of the file
-  pub stretch_file : (r : Refusal) → first_fault (grid_file_rules (length f) (word_at o f)) ≡ Fault r → Fault r ≡ first_fault (stretch_rules o f size)
+  pub stretch_file : (r : Refused) → first_fault (grid_file_rules (length f) (word_at o f)) ≡ Fault r → Fault r ≡ first_fault (stretch_rules o f size)
   unfolding stretch_rules
   stretch_file r e = fault_joined (grid_file_rules (length f) (word_at o f)) (table_rule (word_at o f) size ∷ []) r e
 
@@ -47,12 +44,12 @@ slot_rule w number = rule (not (eqb (w (10 + number)) empty_slot)) 6 0
 
 module _ (o : Order) (f : List ℕ) (number size : ℕ) where
   -- a fault of the file
-  pub delete_file : (r : Refusal) → first_fault (grid_file_rules (length f) (word_at o f)) ≡ Fault r → Fault r ≡ first_fault (delete_rules o f number size)
+  pub delete_file : (r : Refused) → first_fault (grid_file_rules (length f) (word_at o f)) ≡ Fault r → Fault r ≡ first_fault (delete_rules o f number size)
   unfolding delete_rules
   delete_file r e = fault_joined (grid_file_rules (length f) (word_at o f)) (delete_own (word_at o f) number size) r e
 
   -- of an accepted file, a fault of the rules before the last
-  pub delete_heads : GridAccepted o f → (r : Refusal) → first_fault (heads (word_at o f) number size) ≡ Fault r
+  pub delete_heads : GridAccepted o f → (r : Refused) → first_fault (heads (word_at o f) number size) ≡ Fault r
       → Fault r ≡ first_fault (delete_rules o f number size)
   unfolding delete_rules wanted_rules
   delete_heads a r e =
@@ -72,7 +69,7 @@ module _ (o : Order) (f : List ℕ) (number size : ℕ) where
 
 module _ (o : Order) (f : List ℕ) (headers rows columns values size : ℕ) where
   -- a fault of the file
-  pub add_file : (r : Refusal) → first_fault (grid_file_rules (length f) (word_at o f)) ≡ Fault r
+  pub add_file : (r : Refused) → first_fault (grid_file_rules (length f) (word_at o f)) ≡ Fault r
       → Fault r ≡ first_fault (add_rules o f headers rows columns values size)
   unfolding add_rules
   add_file r e = fault_joined (grid_file_rules (length f) (word_at o f)) (add_own o f headers rows columns values size) r e
@@ -91,7 +88,7 @@ module _ {Value : Type 0} (v : Verdict) (value : ℕ → Value) (o : Order) (g :
   counted_pass e s surveyed = rw (e, surveyed)
 
   -- and where they do not
-  pub counted_fault : (r : Refusal) → v ≡ Fault r → (refuses r.number r.place, 0) ≡ counted_stretches v value o g
+  pub counted_fault : (r : Refused) → v ≡ Fault r → (refuses r.number r.place, 0) ≡ counted_stretches v value o g
   counted_fault r e = rw e
 
 module _ {Value : Type 0} (v : Verdict) (value : ℕ → Value) (o : Order) (f g : List ℕ) where
@@ -100,5 +97,5 @@ module _ {Value : Type 0} (v : Verdict) (value : ℕ → Value) (o : Order) (f g
   step_pass e h is s surveyed = rw (counted_pass v value o g e s (surveyed ∙ ap (survey o) is), e, is)
 
   -- and where they do not
-  pub step_fault : (r : Refusal) → v ≡ Fault r → ((refuses r.number r.place, 0), f) ≡ stepped v value o f g
+  pub step_fault : (r : Refused) → v ≡ Fault r → ((refuses r.number r.place, 0), f) ≡ stepped v value o f g
   step_fault r e = rw e

@@ -11,18 +11,14 @@ use Rattle.endian_rules.specs.Numbers.{encode}
 use Rattle.endian_rules.specs.Words.{word_at}
 use Rattle.endian_rules.specs.Files.{bytes_of}
 use Rattle.endian_rules.specs.declared.Order.{Order}
-use Rattle.refusal_rules.specs.Rules.{Rule, rule, first_fault}
+use Rattle.refusal_rules.specs.Rules.{Rule, rule, first_fault, Verdict, Pass, Fault}
 use Rattle.refusal_rules.specs.Answers.{Answer, gives, refuses}
 use Rattle.refusal_rules.specs.Tests.{within}
-use Rattle.refusal_rules.specs.declared.Verdict.{Verdict}
-use Rattle.refusal_rules.specs.declared.Verdict.TheVariants.{Pass, Fault}
 use Rattle.grid_rules.specs.Rules.{empty_slot, is_empty_slot, grid_file_rules, wanted_rules}
 use Rattle.extent_rules.specs.Stretches.{first_word, highest_end, free_stretches}
 use Rattle.extent_rules.specs.Rooms.{lowest_address}
 use Rattle.extent_rules.specs.declared.Extent.{Extent}
 use Rattle.grid_update_rules.specs.declared.Added.{Added}
-use Rattle.grid_update_rules.specs.declared.AddAnswer.{AddAnswer}
-use Rattle.grid_update_rules.specs.declared.AddAnswer.TheVariants.{Done, Refused}
 
 -- ---- words of the directory
 
@@ -74,11 +70,6 @@ with_grid o f header rows columns values =
 abbrev pub added : Order → List ℕ → ℕ → ℕ → ℕ → Added
 added o f rows columns count =
     record { number = lowest_empty (word_at o f) + 1; address = address_for o f (grid_words rows columns); stretches = count }
-
--- what each case of the answer of adding a grid says
-abbrev pub add_says : AddAnswer → Answer Added
-add_says (Done a) = gives a
-add_says (Refused r) = refuses r.number r.place
 
 -- ---- the free stretches
 

@@ -3,45 +3,22 @@
 #![tactic(auto)]
 
 use extent_rules::Extent;
-use refusal_rules::{Refusal, SizeAnswer, Verdict};
 
 // A grid that was added: its number, which is that of its slot, counted from 1; the word at which it begins; and how many free stretches the file has now.
-#[derive(Clone, Copy)]
+#[derive(Clone, Copy, Debug, PartialEq, Eq)]
 pub struct Added {
     pub number: u32,
     pub address: usize,
     pub stretches: usize,
 }
 
-// What adding a grid answers: the grid that was added, or a refusal.
-#[derive(Clone, Copy)]
-pub enum AddAnswer {
-    Done(Added),
-    Refused(Refusal),
-}
-
-// What deleting a grid, or telling the free stretches, leaves to be done: what is answered, and how many places of the table are to be filled.
-#[derive(Clone, Copy)]
-pub struct StretchStep {
-    pub answer: SizeAnswer,
-    pub count: usize,
-}
-
-// The plan of an addition: what its rules say; and where they pass the number of its slot, counted from 1, how many words the grid needs, how many free
-// stretches the file has before the last, and the last. Only those before the last are put into the table to be searched: an addition may leave one stretch
-// fewer, and then the place of the last stays as it was.
-#[derive(Clone, Copy)]
+// The plan of an addition that its rules allow: the number of its slot, counted from 1, how many words the grid needs, how many free stretches the file has
+// before the last, and the last. Only those before the last are put into the table to be searched: an addition may leave one stretch fewer, and then the place of
+// the last stays as it was.
+#[derive(Clone, Copy, Debug, PartialEq, Eq)]
 pub struct AddPlan {
-    pub verdict: Verdict,
     pub number: u32,
     pub need: usize,
     pub count: usize,
     pub last: Extent,
-}
-
-// What adding a grid leaves to be done: what is answered, and how many places of the table are to be filled.
-#[derive(Clone, Copy)]
-pub struct AdditionStep {
-    pub answer: AddAnswer,
-    pub count: usize,
 }

@@ -1,7 +1,7 @@
-// Deleting and adding a grid, as far as the file goes. What a table of free stretches asks is answered beside: how many of its places are to be filled.
+// Deleting and adding a grid, as far as the file goes. The answer tells how many free stretches the file has then, for the table that they are put into.
 #![tactic(auto)]
 
-ghost use Rattle.std.specs.Prelude.{◌≡◌, map, ◌<◌, ◌+◌, ◌≤◌, ◌*◌, length};
+ghost use Rattle.std.specs.Prelude.{◌≡◌, map, ◌<◌, ◌+◌, ◌≤◌, ◌*◌, length, Ok};
 ghost use Rattle.std.proofs.lemmas.List.Edits.{sets};
 ghost use Rattle.std.specs.Int.{w32};
 ghost use Rattle.std.proofs.Common.{of_z};
@@ -9,98 +9,75 @@ ghost use Rattle.endian_rules.specs.Words.{word_at};
 ghost use Rattle.endian_rules.specs.Files.{bytes_of};
 ghost use Rattle.refusal_rules.specs.Rules.{first_fault};
 ghost use Rattle.extent_rules.specs.Stretches.{first_word, highest_end};
-ghost use Rattle.extent_rules.specs.Steps.{SlotsInside, GridAccepted};
+ghost use Rattle.extent_rules.specs.Steps.{SlotsInside};
 ghost use Rattle.grid_update_rules.specs.Updates.{next_free_set, delete_rules, lowest_empty, add_rules, grid_bytes};
-ghost use Rattle.grid_update_rules.specs.Steps.{stretch_says, delete_step, refused_plan, add_plan, addition_says, add_step, Ready};
+ghost use Rattle.grid_update_rules.specs.Steps.{stretch_says, delete_step, add_plan, addition_says, add_step, Ready, ReadyPlan};
+ghost use Rattle.refusal_rules.specs.Answers.{says, verdict_of};
 
 use endian_rules::Order;
 use endian_steps::{read_word, write_number, write_signed};
 use extent_rules::Extent;
-use extent_steps::{first_fitting, has_room, highest_end, survey_free};
+use extent_steps::{AcceptedFile, GridSlots, first_fitting};
 use grid::file_verdict;
 use grid_rules::EMPTY_SLOT;
-use grid_update_rules::{AddAnswer, AddPlan, Added, AdditionStep, StretchStep};
+use grid_update_rules::{AddPlan, Added};
 use refusal::{check, within};
-use refusal_rules::{
-    ABSENT, COUNT_OUT_OF_BOUNDS, NO_EMPTY_SLOT, NO_ROOM, NO_SUCH, Refusal, SHORT_OUTPUT,
-    SizeAnswer, Verdict, WRONG_LENGTH,
-};
+use refusal_rules::Refusal;
 
 // Sets the next free word to the end of the highest grid, or to 12 + n where there is none. The directory must be inside the file, and each grid, and the end must
-// be a signed word.
+// be a signed word. Not a method of `GridSlots`, which reads a file: here the file is changed.
 #[tactic(auto, unfolding(grid_update_rules::specs::Updates::next_free_set, grid_update_rules::specs::Updates::set_word))]
 fn set_next_free(file: &mut [u8], order: Order)
     requires { SlotsInside (length file.old) (word_at order file.old) × (highest_end (word_at order file.old) (first_word (word_at order file.old)) (word_at order file.old 10) < 2147483648) }
     ensures { file.new ≡ next_free_set order file.old }
 {
     let n = read_word(order, file, 10) as usize;
-    let end = highest_end(file, order);
+    let slots = GridSlots { file, order };
+    let end = slots.highest_end();
     write_number(order, 4, file, 4 * (11 + n), end as u32);
 }
 
 // What the rules of deleting a grid say.
-#[tactic(auto, unfolding(refusal_rules::specs::Rules::chained))]
-fn delete_verdict(file: &[u8], order: Order, number: u32, size: usize) -> Verdict
-    ensures { result ≡ first_fault (delete_rules order file.now number size) }
+#[tactic(auto, using(refusal_rules::proofs::Tables::joined_faults, grid_update_rules::proofs::Deleting::count_inside), unfolding(refusal_rules::specs::Rules::first_fault, refusal_rules::specs::Rules::first, grid_rules::specs::Rules::wanted_rules, grid_update_rules::specs::Updates::delete_rules))]
+fn delete_verdict(file: &[u8], order: Order, number: u32, size: usize) -> Result<(), Refusal>
+    ensures { verdict_of result ≡ first_fault (delete_rules order file.now number size) }
 {
-    match file_verdict(file, order) {
-        Verdict::Fault(refusal) => Verdict::Fault(refusal),
-        Verdict::Pass => {
-            let n = read_word(order, file, 10);
-            let table = check(Verdict::Pass, n as usize + 1 <= size, SHORT_OUTPUT, 0);
-            match check(table, within(1, n, number), NO_SUCH, 0) {
-                Verdict::Fault(refusal) => Verdict::Fault(refusal),
-                Verdict::Pass => {
-                    let offset = read_word(order, file, 10 + number as usize);
-                    check(Verdict::Pass, !(offset == EMPTY_SLOT), ABSENT, 0)
-                }
-            }
-        }
-    }
+    file_verdict(file, order)?;
+    let n = read_word(order, file, 10);
+    check(n as usize + 1 <= size, Refusal::ShortOutput)?;
+    check(within(1, n, number), Refusal::NoSuch)?;
+    let offset = read_word(order, file, 10 + number as usize);
+    check(offset != EMPTY_SLOT, Refusal::Absent)
 }
 
-// Deletes the grid of a number, with a table of `size` pairs. Refused as `grid_updates::delete`.
-#[tactic(auto, unfolding(grid_update_rules::specs::Updates::set_word, grid_update_rules::specs::Updates::without_grid, grid_update_rules::specs::Steps::delete_step))]
-pub fn delete_in(file: &mut [u8], order: Order, number: u32, size: usize) -> StretchStep
+// Deletes the grid of a number, with a table of `size` pairs, and answers how many free stretches the file has now. Refused as `grid_updates::delete`.
+#[tactic(auto, using(grid_update_rules::proofs::Deleting::slot_there, grid_update_rules::proofs::Deleting::emptied_next, grid_update_rules::proofs::Deleting::emptied_survey, grid_update_rules::proofs::Deleting::deleted_says), unfolding(grid_update_rules::specs::Steps::delete_step))]
+pub fn delete_in(file: &mut [u8], order: Order, number: u32, size: usize) -> Result<usize, Refusal>
     ensures { (stretch_says result, file.new) ≡ delete_step order file.old number size }
 {
-    match delete_verdict(file, order, number, size) {
-        Verdict::Fault(refusal) => StretchStep {
-            answer: SizeAnswer::Refused(refusal),
-            count: 0,
-        },
-        Verdict::Pass => {
-            write_number(order, 4, file, 4 * (10 + number as usize), EMPTY_SLOT);
-            set_next_free(file, order);
-            let stretches = survey_free(file, order);
-            let count = stretches.count;
-            StretchStep {
-                answer: SizeAnswer::Value(count),
-                count: count,
-            }
-        }
-    }
+    delete_verdict(file, order, number, size)?;
+    write_number(order, 4, file, 4 * (10 + number as usize), EMPTY_SLOT);
+    set_next_free(file, order);
+    let accepted = AcceptedFile { file, order };
+    Ok(accepted.survey_free().count)
 }
 
-// The lowest-numbered empty slot, counted from 0; n where there is none.
+// The lowest-numbered empty slot of an accepted file, counted from 0; n where there is none.
 #[tactic(auto, unfolding(grid_update_rules::specs::Updates::lowest_empty))]
-fn lowest_empty(file: &[u8], order: Order) -> usize
-    requires { GridAccepted order file.now }
-    ensures { result ≡ lowest_empty (word_at order file.now) }
+fn lowest_empty(accepted: AcceptedFile) -> usize
+    ensures { result ≡ lowest_empty (word_at accepted.entry.order accepted.entry.file.now) }
 {
-    let n = read_word(order, file, 10) as usize;
-    let mut k = 0;
-    while k < n {
-        if read_word(order, file, 11 + k) == EMPTY_SLOT {
+    let n = read_word(accepted.order, accepted.file, 10) as usize;
+    for k in 0..n {
+        if read_word(accepted.order, accepted.file, 11 + k) == EMPTY_SLOT {
             return k;
         }
-        k += 1;
     }
     n
 }
 
-// What the rules of adding a grid say, of a file whose own checks have passed, for so many header bytes and values.
-#[tactic(auto, unfolding(refusal_rules::specs::Rules::chained))]
+// What the rules of adding a grid say, for so many header bytes and values.
+#[tactic(auto, using(refusal_rules::proofs::Tables::joined_faults, grid_update_rules::proofs::Deleting::count_inside), unfolding(refusal_rules::specs::Rules::first_fault, refusal_rules::specs::Rules::first, grid_update_rules::specs::Updates::add_rules))]
 fn add_verdict(
     file: &[u8],
     order: Order,
@@ -109,41 +86,26 @@ fn add_verdict(
     columns: u32,
     values: usize,
     size: usize,
-) -> Verdict
-    requires { GridAccepted order file.now }
-    ensures { result ≡ first_fault (add_rules order file.now headers rows columns values size) }
+) -> Result<(), Refusal>
+    ensures { verdict_of result ≡ first_fault (add_rules order file.now headers rows columns values size) }
 {
+    file_verdict(file, order)?;
     let n = read_word(order, file, 10) as usize;
     let points = rows as usize * columns as usize;
-    let slot = lowest_empty(file, order);
-    let room = has_room(file, order, 64 + points);
-    let table = check(Verdict::Pass, n + 1 <= size, SHORT_OUTPUT, 0);
-    let row_count = check(table, within(1, 65535, rows), COUNT_OUT_OF_BOUNDS, 0);
-    let column_count = check(row_count, within(1, 65535, columns), COUNT_OUT_OF_BOUNDS, 0);
-    let value_count = check(column_count, values == points, WRONG_LENGTH, 0);
-    let header_size = check(value_count, headers == 256, WRONG_LENGTH, 0);
-    let empty = check(header_size, slot < n, NO_EMPTY_SLOT, 0);
-    check(empty, room, NO_ROOM, 0)
+    let accepted = AcceptedFile { file, order };
+    let slot = lowest_empty(accepted);
+    let room = accepted.has_room(64 + points);
+    check(n + 1 <= size, Refusal::ShortOutput)?;
+    check(within(1, 65535, rows), Refusal::CountOutOfBounds(0))?;
+    check(within(1, 65535, columns), Refusal::CountOutOfBounds(0))?;
+    check(values == points, Refusal::WrongLength)?;
+    check(headers == 256, Refusal::WrongLength)?;
+    check(slot < n, Refusal::NoEmptySlot)?;
+    check(room, Refusal::NoRoom)
 }
 
-// The plan of an addition that was refused.
-fn refused_plan(refusal: Refusal) -> AddPlan
-    ensures { result ≡ refused_plan refusal }
-{
-    AddPlan {
-        verdict: Verdict::Fault(refusal),
-        number: 0,
-        need: 0,
-        count: 0,
-        last: Extent {
-            start: 0,
-            length: 0,
-        },
-    }
-}
-
-// Plans the addition of a grid, for so many header bytes and values, with a table of `size` pairs. Its verdict refuses as `grid_updates::add`.
-#[tactic(auto, unfolding(extent_rules::specs::Steps::survey))]
+// Plans the addition of a grid, for so many header bytes and values, with a table of `size` pairs. Refused as `grid_updates::add`.
+#[tactic(auto, unfolding(extent_rules::specs::Steps::survey, grid_update_rules::specs::Steps::add_plan))]
 pub fn plan_add(
     file: &[u8],
     order: Order,
@@ -152,42 +114,19 @@ pub fn plan_add(
     columns: u32,
     values: usize,
     size: usize,
-) -> AddPlan
-    ensures { result ≡ add_plan order file.now headers rows columns values size }
+) -> Result<AddPlan, Refusal>
+    ensures { says result ≡ add_plan order file.now headers rows columns values size }
 {
-    match file_verdict(file, order) {
-        Verdict::Fault(refusal) => refused_plan(refusal),
-        Verdict::Pass => {
-            match add_verdict(file, order, headers, rows, columns, values, size) {
-                Verdict::Fault(refusal) => refused_plan(refusal),
-                Verdict::Pass => {
-                    let slot = lowest_empty(file, order);
-                    let stretches = survey_free(file, order);
-                    let last = stretches.last;
-                    AddPlan {
-                        verdict: Verdict::Pass,
-                        number: slot as u32 + 1,
-                        need: 64 + rows as usize * columns as usize,
-                        count: stretches.count - 1,
-                        last: last,
-                    }
-                }
-            }
-        }
-    }
-}
-
-// Copies bytes to the byte `at` of a file. They must be inside it.
-fn write_bytes(file: &mut [u8], at: usize, bytes: &[u8])
-    requires { at + length bytes.now ≤ length file.old }
-    ensures { file.new ≡ sets file.old at bytes.now }
-{
-    let n = bytes.len();
-    let mut i = 0;
-    while i < n {
-        file[at + i] = bytes[i];
-        i += 1;
-    }
+    add_verdict(file, order, headers, rows, columns, values, size)?;
+    let accepted = AcceptedFile { file, order };
+    let slot = lowest_empty(accepted);
+    let stretches = accepted.survey_free();
+    Ok(AddPlan {
+        number: slot as u32 + 1,
+        need: 64 + rows as usize * columns as usize,
+        count: stretches.count - 1,
+        last: stretches.last,
+    })
 }
 
 // Writes signed words, one after another, from the byte `at` of a file on. They must be inside it.
@@ -196,11 +135,8 @@ fn write_values(file: &mut [u8], order: Order, at: usize, values: &[i32])
     requires { at + 4 * length values.now ≤ length file.old }
     ensures { file.new ≡ sets file.old at (bytes_of order (map (of_z w32) values.now)) }
 {
-    let n = values.len();
-    let mut i = 0;
-    while i < n {
-        write_signed(order, file, at + 4 * i, values[i]);
-        i += 1;
+    for (i, value) in values.iter().enumerate() {
+        write_signed(order, file, at + 4 * i, *value);
     }
 }
 
@@ -222,15 +158,14 @@ fn write_grid(
     write_number(order, 4, file, 4 * at, size as u32);
     write_number(order, 4, file, 4 * at + 4, rows);
     write_number(order, 4, file, 4 * at + 8, columns);
-    write_bytes(file, 4 * at + 12, &header[12..]);
+    file[4 * at + 12..4 * at + 256].copy_from_slice(&header[12..]);
     write_values(file, order, 4 * at + 256, values);
 }
 
-// Carries out the plan of an addition, where `found` was found among the free stretches before the last. The caller must make sure that the plan is the one for
-// this file, and that what was found, or else the last stretch, begins at the lowest address at which the grid has room. Nothing is written where the plan
-// refuses.
-#[tactic(auto, unfolding(grid_update_rules::specs::Updates::with_grid, grid_update_rules::specs::Updates::grid_put, grid_update_rules::specs::Steps::add_step))]
-pub fn add_at(
+// Carries out the plan of an addition that its rules allow, where `found` was found among the free stretches before the last. The caller must make sure that the plan is the one for
+// this file and a table of `size` pairs, and that what was found, or else the last stretch, begins at the lowest address at which the grid has room.
+#[tactic(auto, using(grid_update_rules::proofs::Plans::slot_inside, grid_update_rules::proofs::Plans::may_set_next, grid_update_rules::proofs::Plans::may_survey, grid_update_rules::proofs::Plans::carried_out))]
+fn carry_out(
     file: &mut [u8],
     order: Order,
     header: &[u8],
@@ -240,32 +175,42 @@ pub fn add_at(
     size: usize,
     plan: AddPlan,
     found: Extent,
-) -> AdditionStep
+) -> Added
+    requires { ReadyPlan order file.old header.now rows columns values.now size plan found }
+    ensures { (addition_says (Ok result), file.new) ≡ add_step order file.old header.now rows columns values.now size }
+{
+    let at = first_fitting(plan.need, found, plan.last).start;
+    write_grid(file, order, header, rows, columns, values, at);
+    write_number(order, 4, file, 4 * (10 + plan.number as usize), at as u32);
+    set_next_free(file, order);
+    let accepted = AcceptedFile { file, order };
+    Added {
+        number: plan.number,
+        address: at,
+        stretches: accepted.survey_free().count,
+    }
+}
+
+// Carries out the plan of an addition, where `found` was found among the free stretches before the last. The caller must make sure that the plan is the one for
+// this file and a table of `size` pairs, and that what was found, or else the last stretch, begins at the lowest address at which the grid has room. Nothing is
+// written where the plan is refused.
+#[tactic(auto, unfolding(grid_update_rules::specs::Steps::add_step))]
+pub fn add_at(
+    file: &mut [u8],
+    order: Order,
+    header: &[u8],
+    rows: u32,
+    columns: u32,
+    values: &[i32],
+    size: usize,
+    plan: Result<AddPlan, Refusal>,
+    found: Extent,
+) -> Result<Added, Refusal>
     requires { Ready order file.old header.now rows columns values.now size plan found }
     ensures { (addition_says result, file.new) ≡ add_step order file.old header.now rows columns values.now size }
 {
-    let verdict = plan.verdict;
-    match verdict {
-        Verdict::Fault(refusal) => AdditionStep {
-            answer: AddAnswer::Refused(refusal),
-            count: 0,
-        },
-        Verdict::Pass => {
-            let last = plan.last;
-            let room = first_fitting(plan.need, found, last);
-            let at = room.start;
-            write_grid(file, order, header, rows, columns, values, at);
-            write_number(order, 4, file, 4 * (10 + plan.number as usize), at as u32);
-            set_next_free(file, order);
-            let stretches = survey_free(file, order);
-            AdditionStep {
-                answer: AddAnswer::Done(Added {
-                    number: plan.number,
-                    address: at,
-                    stretches: stretches.count,
-                }),
-                count: stretches.count,
-            }
-        }
-    }
+    let plan = plan?;
+    Ok(carry_out(
+        file, order, header, rows, columns, values, size, plan, found,
+    ))
 }

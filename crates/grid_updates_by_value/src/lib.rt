@@ -3,78 +3,55 @@
 #![tactic(auto)]
 
 ghost use Rattle.std.specs.Prelude.{◌≡◌, replicate};
-ghost use Rattle.refusal_rules.specs.Answers.{size_says};
+ghost use Rattle.refusal_rules.specs.Answers.{says};
 ghost use Rattle.extent_rules.specs.Stretches.{no_words};
-ghost use Rattle.grid_update_rules.specs.Updates.{tell_stretches, delete_grid, add_says, add_grid};
+ghost use Rattle.grid_update_rules.specs.Updates.{tell_stretches, delete_grid, add_grid};
 
 use endian_rules::Order;
 use extent_rules::Extent;
-use grid_update_rules::AddAnswer;
-use refusal_rules::SizeAnswer;
+use grid_update_rules::Added;
+use refusal_rules::Refusal;
 
 // How many places a table has that a call makes: one more than the most grids that a file may have, so that it is long enough for every file.
 pub const PLACES: usize = 1025;
 
-// How many places a short table has, which is given by value: it is long enough for a file of at most three slots.
+// How many places a short table has, for a caller that gives one: it is long enough for a file of at most three slots.
 pub const SHORT_PLACES: usize = 4;
 
-// What telling the free stretches or deleting a grid answers, and the table: the free stretches of the file stand in its first places, as many as the answer says,
-// and the places past them have start 0 and length 0; after a refusal all have.
-#[derive(Clone, Copy)]
-pub struct StretchTable {
-    pub answer: SizeAnswer,
-    pub table: [Extent; PLACES],
+// What a call answers, and its table of N places. After a call that succeeds the free stretches of the file stand in the first places, as many as the answer
+// tells, and the places past them are as they were before the call; after a refusal all are. The table is handed back with a refusal too, so it stands beside the
+// answer and not in it.
+#[derive(Clone, Copy, Debug, PartialEq, Eq)]
+pub struct WithTable<Value, const N: usize> {
+    pub answer: Result<Value, Refusal>,
+    pub table: [Extent; N],
 }
 
-// What adding a grid answers, and the table, as in `StretchTable`.
-#[derive(Clone, Copy)]
-pub struct Addition {
-    pub answer: AddAnswer,
-    pub table: [Extent; PLACES],
-}
+// A place of a table that a call makes: it has start 0 and length 0.
+const NO_WORDS: Extent = Extent {
+    start: 0,
+    length: 0,
+};
 
-// What deleting a grid answers, and the table that was given: the free stretches of the file stand in its first places, as many as the answer says, and the places
-// past them are as they were given; after a refusal all are.
-#[derive(Clone, Copy)]
-pub struct ShortStretchTable {
-    pub answer: SizeAnswer,
-    pub table: [Extent; SHORT_PLACES],
-}
-
-// What adding a grid answers, and the table that was given, as in `ShortStretchTable`.
-#[derive(Clone, Copy)]
-pub struct ShortAddition {
-    pub answer: AddAnswer,
-    pub table: [Extent; SHORT_PLACES],
-}
-
-// Tells the free stretches of a file, as `grid_updates::free_stretches` does with a table of so many places of start 0 and length 0. It is never refused for the
+// Tells the free stretches of a file, as `grid_updates::free_stretches` does with a table of `PLACES` places of start 0 and length 0. It is never refused for the
 // length of the table.
-pub fn free_stretches_with_table(file: &[u8], order: Order) -> StretchTable
-    ensures { (size_says result.answer, result.table) ≡ tell_stretches order file.now (replicate 1025 no_words) }
+pub fn free_stretches_with_table(file: &[u8], order: Order) -> WithTable<usize, PLACES>
+    ensures { (says result.answer, result.table) ≡ tell_stretches order file.now (replicate 1025 no_words) }
 {
-    let mut table = [Extent {
-        start: 0,
-        length: 0,
-    }; PLACES];
+    let mut table = [NO_WORDS; PLACES];
     let answer = grid_updates::free_stretches(file, order, &mut table);
-    StretchTable { answer, table }
+    WithTable { answer, table }
 }
 
-// Deletes the grid of a number, counted from 1, as `grid_updates::delete` does with a table of so many places of start 0 and length 0. It is never refused for
+// Deletes the grid of a number, counted from 1, as `grid_updates::delete` does with a table of `PLACES` places of start 0 and length 0. It is never refused for
 // the length of the table.
-pub fn delete_with_table(file: &mut [u8], order: Order, number: u32) -> StretchTable
-    ensures { (size_says result.answer, (file.new, result.table)) ≡ delete_grid order file.old number (replicate 1025 no_words) }
+pub fn delete_with_table(file: &mut [u8], order: Order, number: u32) -> WithTable<usize, PLACES>
+    ensures { (says result.answer, (file.new, result.table)) ≡ delete_grid order file.old number (replicate 1025 no_words) }
 {
-    let mut table = [Extent {
-        start: 0,
-        length: 0,
-    }; PLACES];
-    let answer = grid_updates::delete(file, order, number, &mut table);
-    StretchTable { answer, table }
+    delete_with_given_table(file, order, number, [NO_WORDS; PLACES])
 }
 
-// Adds a grid of so many rows and columns, as `grid_updates::add` does with a table of so many places of start 0 and length 0. It is never refused for the length
+// Adds a grid of so many rows and columns, as `grid_updates::add` does with a table of `PLACES` places of start 0 and length 0. It is never refused for the length
 // of the table.
 pub fn add_with_table(
     file: &mut [u8],
@@ -83,42 +60,45 @@ pub fn add_with_table(
     rows: u32,
     columns: u32,
     values: &[i32],
-) -> Addition
-    ensures { (add_says result.answer, (file.new, result.table)) ≡ add_grid order file.old header.now rows columns values.now (replicate 1025 no_words) }
+) -> WithTable<Added, PLACES>
+    ensures { (says result.answer, (file.new, result.table)) ≡ add_grid order file.old header.now rows columns values.now (replicate 1025 no_words) }
 {
-    let mut table = [Extent {
-        start: 0,
-        length: 0,
-    }; PLACES];
-    let answer = grid_updates::add(file, order, header, rows, columns, values, &mut table);
-    Addition { answer, table }
+    add_with_given_table(
+        file,
+        order,
+        header,
+        rows,
+        columns,
+        values,
+        [NO_WORDS; PLACES],
+    )
 }
 
 // Deletes the grid of a number, counted from 1, as `grid_updates::delete` does with the table that is given.
-pub fn delete_with_short_table(
+pub fn delete_with_given_table<const N: usize>(
     file: &mut [u8],
     order: Order,
     number: u32,
-    mut table: [Extent; SHORT_PLACES],
-) -> ShortStretchTable
-    ensures { (size_says result.answer, (file.new, result.table)) ≡ delete_grid order file.old number table }
+    mut table: [Extent; N],
+) -> WithTable<usize, N>
+    ensures { (says result.answer, (file.new, result.table)) ≡ delete_grid order file.old number table.entry }
 {
     let answer = grid_updates::delete(file, order, number, &mut table);
-    ShortStretchTable { answer, table }
+    WithTable { answer, table }
 }
 
 // Adds a grid of so many rows and columns, as `grid_updates::add` does with the table that is given.
-pub fn add_with_short_table(
+pub fn add_with_given_table<const N: usize>(
     file: &mut [u8],
     order: Order,
     header: &[u8],
     rows: u32,
     columns: u32,
     values: &[i32],
-    mut table: [Extent; SHORT_PLACES],
-) -> ShortAddition
-    ensures { (add_says result.answer, (file.new, result.table)) ≡ add_grid order file.old header.now rows columns values.now table }
+    mut table: [Extent; N],
+) -> WithTable<Added, N>
+    ensures { (says result.answer, (file.new, result.table)) ≡ add_grid order file.old header.now rows columns values.now table.entry }
 {
     let answer = grid_updates::add(file, order, header, rows, columns, values, &mut table);
-    ShortAddition { answer, table }
+    WithTable { answer, table }
 }

@@ -10,29 +10,14 @@ use native.Mathlib.Omega.{arith}
 use Rattle.lists.specs.Choices.{pick}
 use Rattle.refusal_rules.specs.Answers.{Answer, gives, refuses}
 use Rattle.refusal_rules.specs.Tests.{Exactly}
-use Rattle.refusal_rules.proofs.Answers.{gives-refuses, gives-same, settled}
+use Rattle.refusal_rules.proofs.Answers.{gives-refuses, gives-same}
 use Rattle.area_rules.proofs.Layouts.{same_area_exactly}
 use Rattle.grid_rules.proofs.Acceptance.{same_grid_exactly}
 use Rattle.md_rules.proofs.Acceptance.{same_md_exactly}
-use Rattle.layout_rules.specs.Layouts.{opening_says, reopened, Fresh, same_layout, gives_that, is_fresh}
+use Rattle.layout_rules.specs.Layouts.{reopened, Fresh, same_layout, gives_that, is_fresh}
 use Rattle.layout_rules.specs.Found.{found}
 use Rattle.layout_rules.specs.declared.Layout.{Layout}
 use Rattle.layout_rules.specs.declared.Layout.TheVariants.{Area, Grid, Md}
-use Rattle.layout_rules.specs.declared.Opening.{Opening}
-use Rattle.layout_rules.specs.declared.Opening.TheVariants.{Opened, Refused}
-
--- what an opening's answer says settles the answer
-back : Answer Layout → Opening
-back (gives l) = Opened l
-back (refuses n p) = Refused (record { number = n; place = p })
-
-pub opening_settled : (x y : Opening) → opening_says x ≡ opening_says y → x ≡ y
-unfolding back
-opening_settled = settled opening_says back (λ x. step x)
-  where
-    step : (x : Opening) → back (opening_says x) ≡ x
-    step (Opened l) = refl
-    step (Refused r) = refl
 
 -- ---- layouts that are the same
 

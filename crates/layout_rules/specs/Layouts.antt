@@ -8,13 +8,6 @@ use Rattle.grid_rules.specs.Opening.{open_grid, same_grid}
 use Rattle.md_rules.specs.Opening.{open_md, same_md}
 use Rattle.layout_rules.specs.declared.Layout.{Layout}
 use Rattle.layout_rules.specs.declared.Layout.TheVariants.{Area, Grid, Md}
-use Rattle.layout_rules.specs.declared.Opening.{Opening}
-use Rattle.layout_rules.specs.declared.Opening.TheVariants.{Opened, Refused}
-
--- what each case of the answer of opening a file of any kind says
-abbrev pub opening_says : Opening → Answer Layout
-opening_says (Opened l) = gives l
-opening_says (Refused r) = refuses r.number r.place
 
 -- the three kinds of file
 pub data Kind : Type 0 where

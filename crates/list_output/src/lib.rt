@@ -1,13 +1,22 @@
 // The listing of an AREA file, written to standard output.
 #![tactic(auto)]
 
-ghost use Rattle.std.specs.Prelude.{◌≡◌, IfOk, length};
+ghost use Rattle.std.specs.Prelude.{◌≡◌, IfOk, OnOk, length};
+ghost use Rattle.std.specs.Io.KnownBytes.{Appends};
 ghost use Rattle.listing_rules.specs.Page.{listing_text};
 
 use listing_text::list_text;
-use refusal_rules::SizeAnswer;
 use std::io;
 use std::io::Write;
+
+// Hands bytes to a writer, all of them, and answers how many they are. A write that fails is the only error, and the writer may have the first bytes then.
+fn hand_over<W: Write>(writer: &mut W, bytes: &[u8]) -> io::Result<usize>
+    ensures written { OnOk result (Appends (W.contents writer.old) (W.contents writer.new) bytes.now) }
+    ensures counted { IfOk result (λ n. n ≡ length bytes.now) }
+{
+    writer.write_all(bytes)?;
+    Ok(bytes.len())
+}
 
 // Writes the listing of an AREA file to standard output, and answers how many bytes it has handed to the write: all of the listing's. A write that fails is
 // the only error: nothing that is lent changes, and standard output may have the first bytes of the listing.
@@ -16,11 +25,7 @@ pub fn print_listing(rt: &impl Print, file: &[u8]) -> io::Result<usize>
 {
     let mut text = [0u8; 512];
     match list_text(file, &mut text) {
-        SizeAnswer::Value(count) => {
-            let listing = &text[..count];
-            io::writer(rt).write_all(listing)?;
-            Ok(listing.len())
-        }
-        SizeAnswer::Refused(_) => Ok(0),
+        Ok(count) => hand_over(&mut io::writer(rt), &text[..count]),
+        Err(_) => Ok(0),
     }
 }

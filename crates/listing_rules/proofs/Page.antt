@@ -9,7 +9,6 @@ use lib.Dec.{ltb}
 use lib.ListN.{length, take, length-append, length-map}
 use lib.Seq.{take_at, take_all, length-take-le}
 use borrow.Author.Tests.{lt-ltb, le-ltb, ltb-true, ltb-false}
-use Rattle.lists.specs.Choices.{pick}
 use Rattle.lists.specs.Lists.{keep, over}
 use Rattle.lists.proofs.Choices.{pick_cases}
 use Rattle.lists.proofs.Filled.{length-over}

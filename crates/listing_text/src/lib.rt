@@ -1,18 +1,17 @@
 // The text of the listing of an AREA file, in bytes, as the listing program prints it.
 #![tactic(auto)]
 
-ghost use Rattle.std.specs.Prelude.{◌≡◌, ◌≤◌, length, take, get_or};
-ghost use Rattle.lists.specs.Lists.{list_of};
-ghost use Rattle.refusal_rules.specs.Answers.{gives, size_says};
+ghost use Rattle.std.specs.Prelude.{◌≡◌, ◌≤◌, length, take};
+ghost use Rattle.refusal_rules.specs.Answers.{gives, says};
 ghost use Rattle.copy_rules.specs.Runs.{copied};
 ghost use Rattle.listing_rules.specs.Page.{order_line, layout_lines, block_name, block_line, block_lines, listing_text};
 ghost use Rattle.listing_rules.specs.Steps.{empty_text, append_bytes};
 
-use area_rules::{AreaLayout, AreaOpening, Block};
+use area_rules::{AreaLayout, Block};
 use endian_rules::Order;
 use listing::list_area;
 use listing_rules::{BlockList, Entry, Text};
-use refusal_rules::{Refusal, SHORT_OUTPUT, SizeAnswer};
+use refusal_rules::Refusal;
 use texts::{append_bytes, append_number, append_two};
 
 // ---- the lines
@@ -74,13 +73,9 @@ fn append_blocks(text: Text, blocks: BlockList) -> Text
     requires { (blocks.count ≤ 6) × (length blocks.entries ≡ 6) }
     ensures { result ≡ append_bytes text (block_lines (take blocks.count blocks.entries)) }
 {
-    let count = blocks.count;
-    let entries = blocks.entries;
     let mut t = text;
-    let mut i = 0;
-    while i < count {
-        t = append_block(t, entries[i]);
-        i += 1;
+    for entry in &blocks.entries[..blocks.count] {
+        t = append_block(t, *entry);
     }
     t
 }
@@ -100,51 +95,28 @@ fn text_of(file: &[u8]) -> Text
         return append_bytes(empty, b"TOO LONG\n");
     }
     let listing = list_area(file);
-    let opening = listing.opening;
-    let blocks = listing.blocks;
-    match opening {
-        AreaOpening::Opened(layout) => append_blocks(append_layout(empty, layout), blocks),
-        AreaOpening::Refused(refusal) => {
-            let line = append_two(
-                empty,
-                b"REFUSED ",
-                refusal.number as u64,
-                b" at ",
-                refusal.place,
-            );
+    match listing.opening {
+        Ok(layout) => append_blocks(append_layout(empty, layout), listing.blocks),
+        Err(refusal) => {
+            let number = refusal.number() as u64;
+            let line = append_two(empty, b"REFUSED ", number, b" at ", refusal.place());
             append_bytes(line, b"\n")
         }
-    }
-}
-
-// Fills an output with the first bytes of a text.
-#[tactic(auto, unfolding(lists::specs::Lists::list_of))]
-fn fill_text(text: Text, out: &mut [u8])
-    requires { length out.old ≤ 512 }
-    ensures { out.new ≡ list_of (λ i. get_or text.bytes i 0) (length out.old) }
-{
-    let bytes = text.bytes;
-    let mut i = 0;
-    while i < out.len() {
-        out[i] = bytes[i];
-        i += 1;
     }
 }
 
 // Writes the listing of an AREA file into the first places of a lent output, and answers how many bytes it has: the byte order, the numbers of the layout and
 // the blocks that are present by start; the line of the refusal where the file is refused; `TOO LONG` where it has more than 65,536 bytes. Refused with 10
 // where the output is too short, and then nothing is written; 512 places are enough for every file.
-pub fn list_text(file: &[u8], out: &mut [u8]) -> SizeAnswer
-    ensures { (size_says result, out.new) ≡ copied (gives (listing_text file.now)) out.old }
+pub fn list_text(file: &[u8], out: &mut [u8]) -> Result<usize, Refusal>
+    ensures { (says result, out.new) ≡ copied (gives (listing_text file.now)) out.old }
 {
     let text = text_of(file);
     let count = text.count;
     if out.len() < count {
-        return SizeAnswer::Refused(Refusal {
-            number: SHORT_OUTPUT,
-            place: 0,
-        });
+        return Err(Refusal::ShortOutput);
     }
-    fill_text(text, &mut out[..count]);
-    SizeAnswer::Value(count)
+    let listing = &text.bytes[..count];
+    out[..count].copy_from_slice(listing);
+    Ok(count)
 }

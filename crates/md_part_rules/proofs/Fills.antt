@@ -2,6 +2,7 @@
 -- Assumes nothing.
 use mathlib.Core.Path.{◌≡◌, refl, sym, ap, ◌∙◌}
 use mathlib.Core.List.{List, ◌++◌, append_assoc}
+use Rattle.std.specs.Prelude.{Result, Ok, Err}
 use Prim.Native.Nat.{ℕ, zero, suc, ◌+◌, ◌-◌, ◌*◌, ◌^◌, ◌≤◌, ◌<◌}
 use native.Mathlib.Omega.{arith}
 use lib.Dec.{eqb-suc-zero}
@@ -13,11 +14,8 @@ use Rattle.lists.proofs.Built.{length-list_of}
 use Rattle.lists.proofs.Filled.{length-over}
 use Rattle.lists.proofs.Parts.{length-part}
 use Rattle.endian_rules.specs.Words.{signed_at}
-use Rattle.refusal_rules.specs.Answers.{size_says}
 use Rattle.refusal_rules.specs.Rules.{Hold}
 use Rattle.refusal_rules.specs.declared.Refusal.{Refusal}
-use Rattle.refusal_rules.specs.declared.SizeAnswer.{SizeAnswer}
-use Rattle.refusal_rules.specs.declared.SizeAnswer.TheVariants.{Value, Refused}
 use Rattle.refusal_rules.proofs.Answers.{gives-refuses, gives-same}
 use Rattle.refusal_rules.proofs.Exactness.{within_exactly}
 use Rattle.refusal_rules.proofs.Tables.{also}
@@ -31,6 +29,7 @@ use Rattle.md_rules.proofs.Places.{part_begins}
 use Rattle.md_rules.proofs.Sizes.{part_most, field_in_part}
 use Rattle.copy_rules.specs.Runs.{words_at}
 use Rattle.md_part_rules.specs.Records.{part_fields, record_fields, IsRecord, record_rules}
+use Rattle.refusal_rules.specs.Answers.{says}
 
 -- ---- how many fields
 
@@ -92,12 +91,12 @@ module _ (f : List ℕ) (m : MdLayout) where
         omega (arith, start, part_most ((md_bounds m).sound (md_bounded_lem m of.fits)) r c row column p q)
 
     -- an answer that says where a part begins
-    pub part_started : {x : SizeAnswer} {at : ℕ} → size_says x ≡ part_start_of m r c → x ≡ Value at → at ≡ part_word m r c
-    part_started says value = gives-same (sym (ap size_says value) ∙ says ∙ part_begins m of.fits r c row column)
+    pub part_started : {x : Result ℕ Refusal} {at : ℕ} → says x ≡ part_start_of m r c → x ≡ Ok at → at ≡ part_word m r c
+    part_started told value = gives-same (sym (ap says value) ∙ told ∙ part_begins m of.fits r c row column)
 
     -- is no refusal
-    pub part_granted : {A : Type 0} {x : SizeAnswer} {q : Refusal} → size_says x ≡ part_start_of m r c → x ≡ Refused q → A
-    part_granted says refused = gives-refuses (sym (part_begins m of.fits r c row column) ∙ sym says ∙ ap size_says refused)
+    pub part_granted : {A : Type 0} {x : Result ℕ Refusal} {q : Refusal} → says x ≡ part_start_of m r c → x ≡ Err q → A
+    part_granted told refused = gives-refuses (sym (part_begins m of.fits r c row column) ∙ sym told ∙ ap says refused)
 
 -- ---- a record
 

@@ -4,14 +4,14 @@
 
 ghost use Rattle.std.specs.Prelude.{◌≡◌, ◌≤◌};
 ghost use Rattle.refusal_rules.specs.Rules.{first_fault};
-ghost use Rattle.refusal_rules.specs.Answers.{size_says, place_says};
+ghost use Rattle.refusal_rules.specs.Answers.{says, verdict_of};
 ghost use Rattle.md_rules.specs.Bounds.{md_bounded, MdBounds};
 ghost use Rattle.md_rules.specs.Places.{part_word, part_rules, part_start_of, field_rules, field_place};
 ghost use Rattle.md_rules.specs.Fields.{fields_of, field_word, IsField};
 
 use md_rules::MdLayout;
 use refusal::{and, check, within};
-use refusal_rules::{NO_SUCH, Place, PlaceAnswer, SizeAnswer, Verdict};
+use refusal_rules::{Place, Refusal};
 
 // Whether the fields that MD addresses are computed from are within the bounds that opening sets.
 #[tactic(auto, unfolding(md_rules::specs::Bounds::md_bounded))]
@@ -43,25 +43,23 @@ fn part_word(layout: MdLayout, row: u32, column: u32) -> usize
 }
 
 // What the rules of the part that coordinates name say: 7 where there is no such row or column.
-#[tactic(auto, unfolding(md_rules::specs::Places::part_rules, refusal_rules::specs::Rules::chained))]
-fn part_verdict(layout: MdLayout, row: u32, column: u32) -> Verdict
-    ensures { result ≡ first_fault (part_rules layout row column) }
+#[tactic(auto, unfolding(md_rules::specs::Places::part_rules, refusal_rules::specs::Rules::first_fault, refusal_rules::specs::Rules::first))]
+fn part_verdict(layout: MdLayout, row: u32, column: u32) -> Result<(), Refusal>
+    ensures { verdict_of result ≡ first_fault (part_rules layout row column) }
 {
-    let bounded = check(Verdict::Pass, md_bounded(layout), NO_SUCH, 0);
-    let rows = check(bounded, row <= layout.rows, NO_SUCH, 0);
-    check(rows, column <= layout.columns, NO_SUCH, 0)
+    check(md_bounded(layout), Refusal::NoSuch)?;
+    check(row <= layout.rows, Refusal::NoSuch)?;
+    check(column <= layout.columns, Refusal::NoSuch)
 }
 
 // The word at which the part of an MD file that coordinates name begins: the user record for (0, 0), a row header for (r, 0), a column header for
 // (0, c), data for (r, c). Refused with 7 where there is no such row or column, or the layout is above the bounds that opening sets.
 #[tactic(auto, unfolding(md_rules::specs::Places::part_start_of))]
-pub fn part_start(layout: MdLayout, row: u32, column: u32) -> SizeAnswer
-    ensures { size_says result ≡ part_start_of layout row column }
+pub fn part_start(layout: MdLayout, row: u32, column: u32) -> Result<usize, Refusal>
+    ensures { says result ≡ part_start_of layout row column }
 {
-    match part_verdict(layout, row, column) {
-        Verdict::Fault(refusal) => SizeAnswer::Refused(refusal),
-        Verdict::Pass => SizeAnswer::Value(part_word(layout, row, column)),
-    }
+    part_verdict(layout, row, column)?;
+    Ok(part_word(layout, row, column))
 }
 
 // How many fields the part of an MD file has that coordinates name.
@@ -81,13 +79,13 @@ fn fields_of(layout: MdLayout, row: u32, column: u32) -> u32
 }
 
 // What the rules of a field of the part that coordinates name say: 7 where there is no such row, column or field.
-#[tactic(auto, unfolding(md_rules::specs::Places::field_rules, refusal_rules::specs::Rules::chained))]
-fn field_verdict(layout: MdLayout, row: u32, column: u32, position: u32) -> Verdict
-    ensures { result ≡ first_fault (field_rules layout row column position) }
+#[tactic(auto, using(refusal_rules::proofs::Tables::joined_faults), unfolding(md_rules::specs::Places::field_rules, refusal_rules::specs::Rules::first_fault, refusal_rules::specs::Rules::first))]
+fn field_verdict(layout: MdLayout, row: u32, column: u32, position: u32) -> Result<(), Refusal>
+    ensures { verdict_of result ≡ first_fault (field_rules layout row column position) }
 {
-    let part = part_verdict(layout, row, column);
+    part_verdict(layout, row, column)?;
     let fields = fields_of(layout, row, column);
-    check(part, within(1, fields, position), NO_SUCH, 0)
+    check(within(1, fields, position), Refusal::NoSuch)
 }
 
 // The word of a field of the part that coordinates name.
@@ -101,14 +99,12 @@ fn field_word(layout: MdLayout, row: u32, column: u32, position: u32) -> usize
 // The place of a field of an MD file, named by its coordinates, of which 0 names the headers and the user record, and its position, counted from 1. Refused
 // with 7 where there is no such row, column or position, or the layout is above the bounds that opening sets.
 #[tactic(auto, unfolding(md_rules::specs::Places::field_place))]
-pub fn field_place(layout: MdLayout, row: u32, column: u32, position: u32) -> PlaceAnswer
-    ensures { place_says result ≡ field_place layout row column position }
+pub fn field_place(layout: MdLayout, row: u32, column: u32, position: u32) -> Result<Place, Refusal>
+    ensures { says result ≡ field_place layout row column position }
 {
-    match field_verdict(layout, row, column, position) {
-        Verdict::Fault(refusal) => PlaceAnswer::Refused(refusal),
-        Verdict::Pass => PlaceAnswer::At(Place {
-            address: 4 * field_word(layout, row, column, position),
-            width: 4,
-        }),
-    }
+    field_verdict(layout, row, column, position)?;
+    Ok(Place {
+        address: 4 * field_word(layout, row, column, position),
+        width: 4,
+    })
 }

@@ -4,7 +4,7 @@
 ghost use Rattle.std.specs.Prelude.{◌≡◌, ◌≤◌, length};
 ghost use Rattle.lists.specs.Lists.{over};
 ghost use Rattle.refusal_rules.specs.Rules.{first_fault};
-ghost use Rattle.refusal_rules.specs.Answers.{size_says};
+ghost use Rattle.refusal_rules.specs.Answers.{says, verdict_of};
 ghost use Rattle.copy_rules.specs.Runs.{copied};
 ghost use Rattle.md_rules.specs.Accepts.{MdOf};
 ghost use Rattle.md_rules.specs.Fields.{fields_of};
@@ -13,65 +13,65 @@ ghost use Rattle.md_part_rules.specs.Records.{record_rules, part_fields, record_
 use fresh_layout::md_of;
 use layout_rules::Layout;
 use md_places::part_start;
-use md_rules::{MdLayout, MdOpening};
+use md_rules::MdLayout;
 use refusal::{check, within};
-use refusal_rules::{NO_SUCH, Refusal, SHORT_OUTPUT, SizeAnswer, Verdict};
+use refusal_rules::Refusal;
 use word_copy_steps::fill_words;
 
 // What the rules of a record of a row and a column say: 7 where there is no such record.
-#[tactic(auto, unfolding(md_part_rules::specs::Records::record_rules, refusal_rules::specs::Rules::chained))]
-fn record_verdict(l: MdLayout, row: u32, column: u32) -> Verdict
-    ensures { result ≡ first_fault (record_rules l row column) }
+#[tactic(auto, unfolding(md_part_rules::specs::Records::record_rules, refusal_rules::specs::Rules::first_fault, refusal_rules::specs::Rules::first))]
+fn record_verdict(l: MdLayout, row: u32, column: u32) -> Result<(), Refusal>
+    ensures { verdict_of result ≡ first_fault (record_rules l row column) }
 {
-    let rows = check(Verdict::Pass, within(1, l.rows, row), NO_SUCH, 0);
-    check(rows, within(1, l.columns, column), NO_SUCH, 0)
+    check(within(1, l.rows, row), Refusal::NoSuch)?;
+    check(within(1, l.columns, column), Refusal::NoSuch)
 }
 
-// Fills an output with the fields of the part of an accepted file that coordinates name; it has a place for each of them. The part may have none. An accepted
-// file has the part, so its start is not refused.
-fn fill_part(file: &[u8], l: MdLayout, row: u32, column: u32, out: &mut [i32])
-    requires { MdOf l.order file.now l × ((row ≤ l.rows) × ((column ≤ l.columns) × (length out.old ≡ fields_of l row column))) }
-    ensures { out.new ≡ part_fields file.now l row column }
-{
-    let order = l.order;
-    match part_start(l, row, column) {
-        SizeAnswer::Value(word) => fill_words(order, file, 4 * word, 4, out),
-        SizeAnswer::Refused(_) => {}
-    }
+// An accepted MD file with the layout that opening it gives.
+#[derive(Clone, Copy)]
+struct OpenedFile<'a> {
+    file: &'a [u8],
+    layout: MdLayout,
+    ghost opened: { MdOf layout.order file.now layout },
 }
 
-// Fills the first places of an output with a record of an accepted file: row header, column header and data.
-fn fill_record(file: &[u8], l: MdLayout, row: u32, column: u32, out: &mut [i32])
-    requires { MdOf l.order file.now l × (IsRecord l row column × (l.keys ≤ length out.old)) }
-    ensures { out.new ≡ over (record_fields file.now l row column) out.old }
-{
-    let row_end = l.row_keys as usize;
-    let column_end = row_end + l.column_keys as usize;
-    let data_end = column_end + l.data_keys as usize;
-    fill_part(file, l, row, 0, &mut out[..row_end]);
-    fill_part(file, l, 0, column, &mut out[row_end..column_end]);
-    fill_part(file, l, row, column, &mut out[column_end..data_end]);
-}
-
-// Copies a record of an accepted file. Refused with 7 where there is no such record, then with 10 where the output is too short.
-#[tactic(auto, unfolding(md_part_rules::specs::Records::record_in))]
-fn copy_of(file: &[u8], l: MdLayout, row: u32, column: u32, out: &mut [i32]) -> SizeAnswer
-    requires { MdOf l.order file.now l }
-    ensures { (size_says result, out.new) ≡ copied (record_in file.now l row column) out.old }
-{
-    let keys = l.keys as usize;
-    match record_verdict(l, row, column) {
-        Verdict::Fault(refusal) => SizeAnswer::Refused(refusal),
-        Verdict::Pass => {
-            if out.len() < keys {
-                return SizeAnswer::Refused(Refusal {
-                    number: SHORT_OUTPUT,
-                    place: 0,
-                });
-            }
-            fill_record(file, l, row, column, out);
-            SizeAnswer::Value(keys)
+impl<'a> OpenedFile<'a> {
+    // Fills an output with the fields of the part of the file that coordinates name; it has a place for each of them. The part may have none. An accepted file has
+    // the part, so its start is not refused.
+    fn fill_part(&self, row: u32, column: u32, out: &mut [i32])
+        requires { (row ≤ self.now.layout.rows) × ((column ≤ self.now.layout.columns) × (length out.old ≡ fields_of self.now.layout row column)) }
+        ensures { out.new ≡ part_fields self.now.file.now self.now.layout row column }
+    {
+        if let Ok(word) = part_start(self.layout, row, column) {
+            fill_words(self.layout.order, self.file, 4 * word, 4, out);
         }
+    }
+
+    // Fills the first places of an output with a record: row header, column header and data.
+    fn fill_record(&self, row: u32, column: u32, out: &mut [i32])
+        requires { IsRecord self.now.layout row column × (self.now.layout.keys ≤ length out.old) }
+        ensures { out.new ≡ over (record_fields self.now.file.now self.now.layout row column) out.old }
+    {
+        let row_end = self.layout.row_keys as usize;
+        let column_end = row_end + self.layout.column_keys as usize;
+        let data_end = column_end + self.layout.data_keys as usize;
+        self.fill_part(row, 0, &mut out[..row_end]);
+        self.fill_part(0, column, &mut out[row_end..column_end]);
+        self.fill_part(row, column, &mut out[column_end..data_end]);
+    }
+
+    // Copies a record. Refused with 7 where there is no such record, then with 10 where the output is too short.
+    #[tactic(auto, unfolding(md_part_rules::specs::Records::record_in))]
+    fn copy(&self, row: u32, column: u32, out: &mut [i32]) -> Result<usize, Refusal>
+        ensures { (says result, out.new) ≡ copied (record_in self.now.file.now self.now.layout row column) out.old }
+    {
+        let keys = self.layout.keys as usize;
+        record_verdict(self.layout, row, column)?;
+        if out.len() < keys {
+            return Err(Refusal::ShortOutput);
+        }
+        self.fill_record(row, column, out);
+        Ok(keys)
     }
 }
 
@@ -84,11 +84,9 @@ pub fn copy_record(
     row: u32,
     column: u32,
     out: &mut [i32],
-) -> SizeAnswer
-    ensures { (size_says result, out.new) ≡ copy_record file.now layout row column out.old }
+) -> Result<usize, Refusal>
+    ensures { (says result, out.new) ≡ copy_record file.now layout row column out.old }
 {
-    match md_of(file, layout) {
-        MdOpening::Refused(refusal) => SizeAnswer::Refused(refusal),
-        MdOpening::Opened(l) => copy_of(file, l, row, column, out),
-    }
+    let layout = md_of(file, layout)?;
+    OpenedFile { file, layout }.copy(row, column, out)
 }

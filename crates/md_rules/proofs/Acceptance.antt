@@ -1,7 +1,7 @@
 -- A file is opened exactly where document 01's rules hold of it, one line a rule and direction, and what opening answers, or what a
 -- comparison of layouts says, leaves nothing open.
 -- Assumes nothing.
-use mathlib.Core.Path.{◌≡◌, refl, ap}
+use mathlib.Core.Path.{◌≡◌, ap}
 use mathlib.Core.Logic.{◌↔◌}
 use mathlib.Core.List.{List, ◌++◌}
 use Prim.Native.Nat.{ℕ, ◌+◌, ◌*◌, ◌/◌}
@@ -11,35 +11,19 @@ use Rattle.endian_rules.specs.Words.{word_at}
 use Rattle.endian_rules.specs.declared.Order.{Order}
 use Rattle.endian_rules.proofs.Places.{order-same}
 use Rattle.endian_rules.proofs.Signs.{at_least_lem}
-use Rattle.refusal_rules.specs.Rules.{Rule, Hold, FirstFailing}
-use Rattle.refusal_rules.specs.Answers.{Answer, gives, refuses}
+use Rattle.refusal_rules.specs.Rules.{Rule, Hold, FirstFailing, Refused}
+use Rattle.refusal_rules.specs.Answers.{gives, refuses}
 use Rattle.refusal_rules.specs.Tests.{Exactly}
-use Rattle.refusal_rules.specs.declared.Refusal.{Refusal}
 use Rattle.refusal_rules.proofs.Tables.{hold-append, also}
-use Rattle.refusal_rules.proofs.Answers.{settled, value_exactly, refusal_exactly}
+use Rattle.refusal_rules.proofs.Answers.{value_exactly, refusal_exactly}
 use Rattle.refusal_rules.proofs.Exactness.{by_numbers}
 use Rattle.md_rules.specs.Rules.{md_count_rules, md_sum_rules, md_fixed_rules, md_data_end, md_end_rules, md_rules}
-use Rattle.md_rules.specs.Opening.{md_says, md_layout_of, open_md_words, open_md, md_numbers, same_md}
+use Rattle.md_rules.specs.Opening.{md_layout_of, open_md_words, open_md, md_numbers, same_md}
 use Rattle.md_rules.specs.Accepts.{AcceptsMd}
 use Rattle.md_rules.specs.declared.MdLayout.{MdLayout}
-use Rattle.md_rules.specs.declared.MdOpening.{MdOpening}
-use Rattle.md_rules.specs.declared.MdOpening.TheVariants.{Opened, Refused}
 use Rattle.md_rules.proofs.Verdicts.{MdCounted, hold_counted, counted_hold}
 
 -- ---- answers
-
-back : Answer MdLayout → MdOpening
-back (gives l) = Opened l
-back (refuses n p) = Refused (record { number = n; place = p })
-
--- what an opening's answer says settles the answer
-pub md_settled : (x y : MdOpening) → md_says x ≡ md_says y → x ≡ y
-unfolding back
-md_settled = settled md_says back (λ x. step x)
-  where
-    step : (x : MdOpening) → back (md_says x) ≡ x
-    step (Opened l) = refl
-    step (Refused r) = refl
 
 -- layouts with the same numbers are the same
 numbers_settle : (a b : MdLayout) → md_numbers a ≡ md_numbers b → a ≡ b
@@ -162,7 +146,7 @@ md_exactly o f l =
     (λ e. (y.0 (x.0 e).0, (x.0 e).1), λ a. x.1 (y.1 a.0, a.1))
 
 -- and it is refused exactly where a rule fails, and then with the number and the place of the first that does
-pub md_refused : (o : Order) (f : List ℕ) (r : Refusal)
+pub md_refused : (o : Order) (f : List ℕ) (r : Refused)
     → (open_md o f ≡ refuses r.number r.place) ↔ FirstFailing (md_rules (length f) (word_at o f)) r
 unfolding open_md open_md_words
 md_refused o f r = refusal_exactly (md_rules (length f) (word_at o f)) (md_layout_of o (length f) (word_at o f)) r

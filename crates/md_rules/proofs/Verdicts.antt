@@ -7,9 +7,8 @@ use Prim.Native.Nat.{ℕ, ◌*◌, ◌≤◌}
 use native.Mathlib.Nat.{mul-le-mul}
 use lib.Dec.{leb}
 use borrow.Author.Tests.{le-leb}
-use Rattle.refusal_rules.specs.Rules.{rule, first, first_fault, tabled, Hold}
-use Rattle.refusal_rules.specs.declared.Verdict.TheVariants.{Pass}
-use Rattle.refusal_rules.proofs.Tables.{first_assoc, judge-holds, pass_hold, first_fault-append, also}
+use Rattle.refusal_rules.specs.Rules.{rule, first, first_fault, tabled, Hold, Pass}
+use Rattle.refusal_rules.proofs.Tables.{first_assoc, judge-holds, pass_hold, joined_faults, also}
 use Rattle.refusal_rules.proofs.Exactness.{within_exactly}
 use Rattle.md_rules.specs.Rules.{md_count_rules, md_sum_rules, md_fixed_rules, md_end_rules, md_rules}
 
@@ -86,8 +85,8 @@ unfolding md_rules first_fault first
 long-file len w h =
     rw (
       judge-holds (rule (leb 16384 len) 1 0) (le-leb 16384 len h),
-      first_fault-append (md_count_rules w) (md_sum_rules w ++ (md_fixed_rules w ++ md_end_rules len w)),
-      first_fault-append (md_sum_rules w) (md_fixed_rules w ++ md_end_rules len w),
-      first_fault-append (md_fixed_rules w) (md_end_rules len w),
+      joined_faults (md_count_rules w) (md_sum_rules w ++ (md_fixed_rules w ++ md_end_rules len w)),
+      joined_faults (md_sum_rules w) (md_fixed_rules w ++ md_end_rules len w),
+      joined_faults (md_fixed_rules w) (md_end_rules len w),
       first_assoc (first_fault (md_sum_rules w)) (first_fault (md_fixed_rules w)) (first_fault (md_end_rules len w)),
     )

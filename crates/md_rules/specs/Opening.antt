@@ -4,17 +4,10 @@ use Rattle.std.specs.Prelude.{Bool, List, [], ◌∷◌, ℕ, length}
 use Rattle.endian_rules.specs.Words.{word_at, order_number}
 use Rattle.endian_rules.specs.declared.Order.{Order}
 use Rattle.refusal_rules.specs.Rules.{first_fault}
-use Rattle.refusal_rules.specs.Answers.{Answer, gives, refuses, answered}
+use Rattle.refusal_rules.specs.Answers.{Answer, answered}
 use Rattle.refusal_rules.specs.Tests.{same_numbers}
 use Rattle.md_rules.specs.Rules.{md_rules}
 use Rattle.md_rules.specs.declared.MdLayout.{MdLayout}
-use Rattle.md_rules.specs.declared.MdOpening.{MdOpening}
-use Rattle.md_rules.specs.declared.MdOpening.TheVariants.{Opened, Refused}
-
--- what each case of the answer of opening an MD file says
-abbrev pub md_says : MdOpening → Answer MdLayout
-md_says (Opened l) = gives l
-md_says (Refused r) = refuses r.number r.place
 
 -- the layout that the words of a file of `len` bytes give: "R, C, K, a, b, d, words 28 and 29"
 unfoldable pub md_layout_of : Order → ℕ → (ℕ → ℕ) → MdLayout

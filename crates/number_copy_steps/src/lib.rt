@@ -5,13 +5,13 @@
 
 ghost use Rattle.std.specs.Prelude.{◌≡◌, ℕ, ◌+◌, ◌*◌, ◌≤◌, ◌<◌, length};
 ghost use Rattle.endian_rules.specs.declared.Order.TheVariants.{Big};
-ghost use Rattle.refusal_rules.specs.Answers.{gives, size_says};
+ghost use Rattle.refusal_rules.specs.Answers.{gives, says};
 ghost use Rattle.copy_rules.specs.Runs.{numbers_at, copied};
 
 use copy_rules::Strided;
 use endian_rules::Order;
 use endian_steps::read_number;
-use refusal_rules::{Refusal, SHORT_OUTPUT, SizeAnswer};
+use refusal_rules::Refusal;
 
 // Fills an output with unsigned numbers, one a turn.
 fn numbers_singly(order: Order, width: usize, file: &[u8], at: usize, step: usize, out: &mut [u32])
@@ -19,6 +19,7 @@ fn numbers_singly(order: Order, width: usize, file: &[u8], at: usize, step: usiz
     ensures { out.new ≡ numbers_at order width file.now at step (length out.old) }
 {
     let n = out.len();
+    // A counter: with `for` and `iter_mut` a number of four bytes in little order takes 6.0 instructions, and with this 3.75.
     let mut i = 0;
     while i < n {
         let number = read_number(order, width, file, at + i * step);
@@ -48,6 +49,7 @@ fn numbers_by_fours(width: usize, file: &[u8], at: usize, step: usize, out: &mut
     ensures { out.new ≡ numbers_at Big width file.now at step (length out.old) }
 {
     let n = out.len();
+    // A counter: it goes on by fours, and the last places begin where it ends.
     let mut i = 0;
     while i + 4 <= n {
         let end = i + 4;
@@ -86,17 +88,14 @@ pub fn copy_numbers(
     file: &[u8],
     run: Strided,
     out: &mut [u32],
-) -> SizeAnswer
+) -> Result<usize, Refusal>
     requires { (width ≤ 4) × ((i : ℕ) → i < run.count → run.at + i * run.step + width ≤ length file.now) }
-    ensures { (size_says result, out.new) ≡ copied (gives (numbers_at order width file.now run.at run.step run.count)) out.old }
+    ensures { (says result, out.new) ≡ copied (gives (numbers_at order width file.now run.at run.step run.count)) out.old }
 {
     let count = run.count;
     if out.len() < count {
-        return SizeAnswer::Refused(Refusal {
-            number: SHORT_OUTPUT,
-            place: 0,
-        });
+        return Err(Refusal::ShortOutput);
     }
     fill_numbers(order, width, file, run.at, run.step, &mut out[..count]);
-    SizeAnswer::Value(count)
+    Ok(count)
 }

@@ -2,7 +2,7 @@
 #![tactic(auto)]
 
 ghost use Rattle.std.specs.Prelude.{◌≡◌};
-ghost use Rattle.refusal_rules.specs.Answers.{number_says, word_says, size_says};
+ghost use Rattle.refusal_rules.specs.Answers.{says};
 ghost use Rattle.span_rules.specs.Spans.{lent_bytes, that_part};
 ghost use Rattle.area_part_rules.specs.Blocks.{block_span};
 ghost use Rattle.area_part_rules.specs.Lines.{copy_line};
@@ -13,67 +13,69 @@ use area_blocks::block_bytes;
 use area_rules::{Block, SlotOrBand};
 use layout_rules::Layout;
 use reads::{read_field, read_point, read_sample};
-use refusal_rules::{NumberAnswer, SizeAnswer, WordAnswer};
+use refusal_rules::Refusal;
 
 // The bytes of a file, with a layout. Document 01: "Display code carries file bytes and layout together as one thing and reads through it, with the same
 // answers." A caller can make the layout up: nothing is known of its fields until a call finds it to be the one that opening the file gives.
-#[derive(Clone, Copy)]
+#[derive(Clone, Copy, Debug, PartialEq, Eq)]
 pub struct Reader<'a> {
     file: &'a [u8],
     layout: Layout,
 }
 
-// Puts lent bytes and a layout together. It refuses nothing: whether the layout is stale is found by each call that reads through the reader.
-pub fn new<'a>(file: &'a [u8], layout: Layout) -> Reader<'a>
-    ensures { result ≡ record { file = file.entry; layout = layout } }
-{
-    Reader { file, layout }
-}
+impl<'a> Reader<'a> {
+    // Puts lent bytes and a layout together. It refuses nothing: whether the layout is stale is found by each call that reads through the reader.
+    pub fn new(file: &'a [u8], layout: Layout) -> Reader<'a>
+        ensures { result ≡ record { file = file.entry; layout = layout } }
+    {
+        Reader { file, layout }
+    }
 
-// The sample of a line and an element, both counted from 0, and a slot or band of an AREA file: an unsigned number. Refused as
-// `reads::read_sample`.
-pub fn sample<'a>(r: Reader<'a>, line: u32, element: u32, which: SlotOrBand) -> NumberAnswer
-    ensures { number_says result ≡ read_sample r.entry.file.now r.entry.layout line element which }
-{
-    read_sample(r.file, r.layout, line, element, which)
-}
+    // The sample of a line and an element, both counted from 0, and a slot or band of an AREA file: an unsigned number. Refused as
+    // `reads::read_sample`.
+    pub fn sample(self, line: u32, element: u32, which: SlotOrBand) -> Result<u32, Refusal>
+        ensures { says result ≡ read_sample self.entry.file.now self.entry.layout line element which }
+    {
+        read_sample(self.file, self.layout, line, element, which)
+    }
 
-// The point of a row and a column, both counted from 1, of a grid: a signed word. Refused as `reads::read_point`.
-pub fn point<'a>(r: Reader<'a>, row: u32, column: u32) -> WordAnswer
-    ensures { word_says result ≡ read_point r.entry.file.now r.entry.layout row column }
-{
-    read_point(r.file, r.layout, row, column)
-}
+    // The point of a row and a column, both counted from 1, of a grid: a signed word. Refused as `reads::read_point`.
+    pub fn point(self, row: u32, column: u32) -> Result<i32, Refusal>
+        ensures { says result ≡ read_point self.entry.file.now self.entry.layout row column }
+    {
+        read_point(self.file, self.layout, row, column)
+    }
 
-// The field at a position, counted from 1, of the part of an MD file that coordinates name: a signed word. Refused as
-// `reads::read_field`.
-pub fn field<'a>(r: Reader<'a>, row: u32, column: u32, position: u32) -> WordAnswer
-    ensures { word_says result ≡ read_field r.entry.file.now r.entry.layout row column position }
-{
-    read_field(r.file, r.layout, row, column, position)
-}
+    // The field at a position, counted from 1, of the part of an MD file that coordinates name: a signed word. Refused as
+    // `reads::read_field`.
+    pub fn field(self, row: u32, column: u32, position: u32) -> Result<i32, Refusal>
+        ensures { says result ≡ read_field self.entry.file.now self.entry.layout row column position }
+    {
+        read_field(self.file, self.layout, row, column, position)
+    }
 
-// A block of an AREA file, handed back as that part of the file; empty where `area_blocks::block_span` refuses.
-pub fn block<'a>(r: Reader<'a>, block: Block) -> &'a [u8]
-    ensures { lent_bytes result ≡ that_part r.entry.file (block_span r.entry.file.now r.entry.layout block) }
-{
-    block_bytes(r.file, r.layout, block)
-}
+    // A block of an AREA file, handed back as that part of the file; empty where `area_blocks::block_span` refuses.
+    pub fn block(self, block: Block) -> &'a [u8]
+        ensures { lent_bytes result ≡ that_part self.entry.file (block_span self.entry.file.now self.entry.layout block) }
+    {
+        block_bytes(self.file, self.layout, block)
+    }
 
-// Copies one slot, or one band, of one line, counted from 0, of an AREA file into the first places of a lent output of unsigned numbers, and answers how many
-// it wrote. Refused as `area_lines::copy_line`. A refused copy writes nothing.
-pub fn copy_line<'a>(r: Reader<'a>, line: u32, which: SlotOrBand, out: &mut [u32]) -> SizeAnswer
-    ensures { (size_says result, out.new) ≡ copy_line r.entry.file.now r.entry.layout line which out.old }
-{
-    area_lines::copy_line(r.file, r.layout, line, which, out)
-}
+    // Copies one slot, or one band, of one line, counted from 0, of an AREA file into the first places of a lent output of unsigned numbers, and answers how many
+    // it wrote. Refused as `area_lines::copy_line`. A refused copy writes nothing.
+    pub fn copy_line(self, line: u32, which: SlotOrBand, out: &mut [u32]) -> Result<usize, Refusal>
+        ensures { (says result, out.new) ≡ copy_line self.entry.file.now self.entry.layout line which out.old }
+    {
+        area_lines::copy_line(self.file, self.layout, line, which, out)
+    }
 
-// Copies a grid, row by row, into the first places of a lent output of signed words, and answers how many it wrote. Refused as `grid_copies::copy_by_rows`. A
-// refused copy writes nothing.
-pub fn copy_by_rows<'a>(r: Reader<'a>, out: &mut [i32]) -> SizeAnswer
-    ensures { (size_says result, out.new) ≡ copy_by_rows r.entry.file.now r.entry.layout out.old }
-{
-    grid_copies::copy_by_rows(r.file, r.layout, out)
+    // Copies a grid, row by row, into the first places of a lent output of signed words, and answers how many it wrote. Refused as `grid_copies::copy_by_rows`. A
+    // refused copy writes nothing.
+    pub fn copy_by_rows(self, out: &mut [i32]) -> Result<usize, Refusal>
+        ensures { (says result, out.new) ≡ copy_by_rows self.entry.file.now self.entry.layout out.old }
+    {
+        grid_copies::copy_by_rows(self.file, self.layout, out)
+    }
 }
 
 // The sample of a line and an element, both counted from 0, and a slot or band of an AREA file, read through a reader that is made for this one call: for a caller
@@ -84,8 +86,8 @@ pub fn read_through(
     line: u32,
     element: u32,
     which: SlotOrBand,
-) -> NumberAnswer
-    ensures { number_says result ≡ read_sample file.now layout line element which }
+) -> Result<u32, Refusal>
+    ensures { says result ≡ read_sample file.now layout line element which }
 {
-    sample(new(file, layout), line, element, which)
+    Reader::new(file, layout).sample(line, element, which)
 }

@@ -3,29 +3,18 @@
 
 ghost use Rattle.std.specs.Prelude.{◌≡◌, eqb};
 ghost use Rattle.lists.specs.Choices.{both, either};
-ghost use Rattle.refusal_rules.specs.Rules.{rule, judge, first};
+ghost use Rattle.refusal_rules.specs.Rules.{rule, judge, numbered};
+ghost use Rattle.refusal_rules.specs.Answers.{verdict_of};
 ghost use Rattle.refusal_rules.specs.Tests.{within};
 
-use refusal_rules::{Refusal, Verdict};
+use refusal_rules::Refusal;
 
-// One rule more: a fault stays as it is, and after a pass a rule that does not hold is a fault with its own number and place.
-#[tactic(auto, unfolding(refusal_rules::specs::Rules::first, refusal_rules::specs::Rules::judge))]
-pub fn check(verdict: Verdict, holds: bool, number: u32, place: usize) -> Verdict
-    ensures { result ≡ first verdict (judge (rule holds number place)) }
+// One rule: where it does not hold, it refuses as it says.
+#[tactic(auto, unfolding(refusal_rules::specs::Rules::judge))]
+pub fn check(holds: bool, refusal: Refusal) -> Result<(), Refusal>
+    ensures { verdict_of result ≡ judge (rule holds (numbered refusal).number (numbered refusal).place) }
 {
-    match verdict {
-        Verdict::Fault(refusal) => Verdict::Fault(refusal),
-        Verdict::Pass => {
-            if holds {
-                Verdict::Pass
-            } else {
-                Verdict::Fault(Refusal {
-                    number: number,
-                    place: place as u64,
-                })
-            }
-        }
-    }
+    if holds { Ok(()) } else { Err(refusal) }
 }
 
 // Whether a number is at least `low` and at most `high`.
@@ -50,7 +39,8 @@ pub fn or(a: bool, b: bool) -> bool
     a || b
 }
 
-// Whether two numbers are equal and a test holds, which has been made when it is called.
+// Whether two numbers are equal and a test holds, which has been made when it is called. It stays as a public call with a contract of its own, though layouts
+// are compared by `==`.
 pub fn equal_and(x: u32, y: u32, rest: bool) -> bool
     ensures { result ≡ both (eqb x y) rest }
 {

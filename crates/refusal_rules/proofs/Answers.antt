@@ -5,15 +5,13 @@ use mathlib.Core.Logic.{◌↔◌}
 use mathlib.Core.List.{List, ◌∷◌}
 use Prim.Native.Nat.{ℕ, ◌<◌}
 use native.Mathlib.Omega.{arith}
-use Rattle.refusal_rules.specs.Rules.{Rule, first_fault, Every, Hold, Give, FirstFailing}
-use Rattle.refusal_rules.specs.Answers.{Answer, gives, refuses, answered, mapped, and_then, number_says, word_says, size_says, place_says}
-use Rattle.refusal_rules.specs.declared.NumberAnswer.{NumberAnswer}
-use Rattle.refusal_rules.specs.declared.PlaceAnswer.{PlaceAnswer}
+use lib.Dec.{eqb}
+use Rattle.std.specs.Prelude.{Result, Ok, Err}
+use Rattle.lists.specs.Choices.{pick}
 use Rattle.refusal_rules.specs.declared.Refusal.{Refusal}
-use Rattle.refusal_rules.specs.declared.SizeAnswer.{SizeAnswer}
-use Rattle.refusal_rules.specs.declared.Verdict.{Verdict}
-use Rattle.refusal_rules.specs.declared.Verdict.TheVariants.{Pass, Fault}
-use Rattle.refusal_rules.specs.declared.WordAnswer.{WordAnswer}
+use Rattle.refusal_rules.specs.declared.Refusal.TheVariants.{ShortFile, NoByteOrder, CountOutOfBounds, RuleBroken, Misplaced, Absent, NoSuch, TooLarge, Stale, ShortOutput, NoDate, WrongLength, NoEmptySlot, NoRoom}
+use Rattle.refusal_rules.specs.Rules.{Refused, numbered, Verdict, Pass, Fault, Rule, first_fault, Every, Hold, Give, FirstFailing}
+use Rattle.refusal_rules.specs.Answers.{Answer, gives, refuses, says, answered, mapped, and_then}
 use Rattle.refusal_rules.proofs.Tables.{pass_hold, hold_pass, fault_first, first_fault_lem, every_right, same_fault}
 
 -- ---- answers that are equal
@@ -28,44 +26,57 @@ module _ {Value : Type 0} where
   gives-same e = cc
 
   -- equal refusals
-  pub refuses-same : {r s : Refusal} → ◌≡◌ {A = Answer Value} (refuses r.number r.place) (refuses s.number s.place) → r ≡ s
+  pub refuses-same : {r s : Refused} → ◌≡◌ {A = Answer Value} (refuses r.number r.place) (refuses s.number s.place) → r ≡ s
   refuses-same {r} {s} e =
       let number : r.number ≡ s.number = cc in
       let place : r.place ≡ s.place = cc in
       λ i. record { number = number i; place = place i }
 
-  -- An enum of which each case says what no other says: what an answer says settles the answer.
-  pub settled : {Enum : Type 0} (says : Enum → Answer Value) (back : Answer Value → Enum) → ((x : Enum) → back (says x) ≡ x)
-      → (x y : Enum) → says x ≡ says y → x ≡ y
-  settled says back e x y p = sym (e x) ∙ ap back p ∙ e y
+-- the refusal of each number and place
+refusal_at : ℕ → ℕ → Refusal
+refusal_at n p =
+    pick (eqb n 1) ShortFile
+    (pick (eqb n 2) NoByteOrder
+    (pick (eqb n 3) (CountOutOfBounds p)
+    (pick (eqb n 4) (RuleBroken p)
+    (pick (eqb n 5) (Misplaced p)
+    (pick (eqb n 6) Absent
+    (pick (eqb n 7) NoSuch
+    (pick (eqb n 8) TooLarge
+    (pick (eqb n 9) Stale
+    (pick (eqb n 10) ShortOutput
+    (pick (eqb n 11) NoDate
+    (pick (eqb n 12) WrongLength
+    (pick (eqb n 13) NoEmptySlot NoRoom))))))))))))
 
--- what an answer says settles the answer: one whose value is an unsigned number
-pub number_settled : (x y : NumberAnswer) → number_says x ≡ number_says y → x ≡ y
-number_settled (NumberAnswer.Value n) (NumberAnswer.Value m) e = ap NumberAnswer.Value (gives-same e)
-number_settled (NumberAnswer.Value n) (NumberAnswer.Refused s) e = gives-refuses e
-number_settled (NumberAnswer.Refused r) (NumberAnswer.Value m) e = gives-refuses (sym e)
-number_settled (NumberAnswer.Refused r) (NumberAnswer.Refused s) e = ap NumberAnswer.Refused (refuses-same e)
+-- is the one that has them
+numbered_back : (r : Refusal) → refusal_at (numbered r).number (numbered r).place ≡ r
+unfolding refusal_at
+numbered_back ShortFile = refl
+numbered_back NoByteOrder = refl
+numbered_back (CountOutOfBounds w) = refl
+numbered_back (RuleBroken w) = refl
+numbered_back (Misplaced w) = refl
+numbered_back Absent = refl
+numbered_back NoSuch = refl
+numbered_back TooLarge = refl
+numbered_back Stale = refl
+numbered_back ShortOutput = refl
+numbered_back NoDate = refl
+numbered_back WrongLength = refl
+numbered_back NoEmptySlot = refl
+numbered_back NoRoom = refl
 
--- one whose value is a signed word
-pub word_settled : (x y : WordAnswer) → word_says x ≡ word_says y → x ≡ y
-word_settled (WordAnswer.Value n) (WordAnswer.Value m) e = ap WordAnswer.Value (gives-same e)
-word_settled (WordAnswer.Value n) (WordAnswer.Refused s) e = gives-refuses e
-word_settled (WordAnswer.Refused r) (WordAnswer.Value m) e = gives-refuses (sym e)
-word_settled (WordAnswer.Refused r) (WordAnswer.Refused s) e = ap WordAnswer.Refused (refuses-same e)
+-- so refusals with one number and one place are the same
+pub numbered_settles : (r s : Refusal) → numbered r ≡ numbered s → r ≡ s
+numbered_settles r s e = sym (numbered_back r) ∙ ap (λ (x : Refused). refusal_at x.number x.place) e ∙ numbered_back s
 
--- one whose value is an address, a length or a count
-pub size_settled : (x y : SizeAnswer) → size_says x ≡ size_says y → x ≡ y
-size_settled (SizeAnswer.Value n) (SizeAnswer.Value m) e = ap SizeAnswer.Value (gives-same e)
-size_settled (SizeAnswer.Value n) (SizeAnswer.Refused s) e = gives-refuses e
-size_settled (SizeAnswer.Refused r) (SizeAnswer.Value m) e = gives-refuses (sym e)
-size_settled (SizeAnswer.Refused r) (SizeAnswer.Refused s) e = ap SizeAnswer.Refused (refuses-same e)
-
--- one whose value is a place
-pub place_settled : (x y : PlaceAnswer) → place_says x ≡ place_says y → x ≡ y
-place_settled (PlaceAnswer.At p) (PlaceAnswer.At q) e = ap PlaceAnswer.At (gives-same e)
-place_settled (PlaceAnswer.At p) (PlaceAnswer.Refused s) e = gives-refuses e
-place_settled (PlaceAnswer.Refused r) (PlaceAnswer.At q) e = gives-refuses (sym e)
-place_settled (PlaceAnswer.Refused r) (PlaceAnswer.Refused s) e = ap PlaceAnswer.Refused (refuses-same e)
+-- what a result says settles the result
+pub says_settles : {Value : Type 0} (x y : Result Value Refusal) → says x ≡ says y → x ≡ y
+says_settles (Ok v) (Ok w) e = ap Ok (gives-same e)
+says_settles (Ok v) (Err s) e = gives-refuses e
+says_settles (Err r) (Ok w) e = gives-refuses (sym e)
+says_settles (Err r) (Err s) e = ap Err (numbered_settles r s (refuses-same e))
 
 -- an answer with other values made of its values, no two of which become one, gives what the answer gives
 pub mapped-gives : {Value Other : Type 0} (h : Value → Other) → ((v w : Value) → h v ≡ h w → v ≡ w)
@@ -124,7 +135,7 @@ module _ {Value : Type 0} (rs : List Rule) (v : Value) where
       step (Fault r) p e = gives-refuses (sym e)
 
   -- and a refusal exactly where a rule fails, and then that of the first
-  pub refusal_exactly : (f : Refusal) → (answered (first_fault rs) v ≡ refuses f.number f.place) ↔ FirstFailing rs f
+  pub refusal_exactly : (f : Refused) → (answered (first_fault rs) v ≡ refuses f.number f.place) ↔ FirstFailing rs f
   refusal_exactly f = (λ e. step (first_fault rs) refl e, λ x. rw (first_fault_lem rs f x))
     where
       step : (x : Verdict) → first_fault rs ≡ x → answered x v ≡ refuses f.number f.place → FirstFailing rs f
@@ -134,10 +145,10 @@ module _ {Value : Type 0} (rs : List Rule) (v : Value) where
   -- and never with a number that no rule has
   pub never_refused : (n p : ℕ) → Every (λ r. ¬ (r.number ≡ n)) rs → ¬ (answered (first_fault rs) v ≡ refuses n p)
   never_refused n p other e =
-      let f : Refusal = record { number = n; place = p } in
+      let f : Refused = record { number = n; place = p } in
       let x : FirstFailing rs f = (refusal_exactly f).0 e in
       (every_right (λ r. ¬ (r.number ≡ n)) x.before (x.failing ∷ x.after) (subst (Every (λ r. ¬ (r.number ≡ n))) x.split other)).0
-      (sym (ap (λ (r : Refusal). r.number) x.gives))
+      (sym (ap (λ (r : Refused). r.number) x.gives))
 
 -- ---- 7, there is no such value, is no number above it: 8 is left to stores, 9 to layouts that are stale
 
@@ -162,7 +173,7 @@ module _ {Value Asked : Type 0} (Is : Asked → Value → Type 0) (rules : Asked
   exactly_one x v w p q = gives-same (sym ((exactly x v).1 p) ∙ (exactly x w).1 q)
 
   -- where every rule gives the same refusal, it is given exactly where there is none
-  pub exactly_none : (f : Refusal) → ((x : Asked) → Give f (rules x))
+  pub exactly_none : (f : Refused) → ((x : Asked) → Give f (rules x))
       → (x : Asked) → (answered (first_fault (rules x)) (value x) ≡ refuses f.number f.place) ↔ ((v : Value) → ¬ Is x v)
   exactly_none f all x = (λ e v p. gives-refuses (sym ((exactly x v).1 p) ∙ e), λ none. step (first_fault (rules x)) refl none)
     where
@@ -171,4 +182,4 @@ module _ {Value Asked : Type 0} (Is : Asked → Value → Type 0) (rules : Asked
       step Pass e none = absurd (none (value x) ((exactly x (value x)).0 (ap (λ (y : Verdict). answered y (value x)) e)))
       step (Fault r) e none =
           ap (λ (y : Verdict). answered y (value x)) e
-          ∙ ap (λ (s : Refusal). refuses s.number s.place) (same_fault (rules x) f r (all x) (fault_first (rules x) r e))
+          ∙ ap (λ (s : Refused). refuses s.number s.place) (same_fault (rules x) f r (all x) (fault_first (rules x) r e))

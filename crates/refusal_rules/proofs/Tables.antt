@@ -7,15 +7,12 @@ use mathlib.Core.List.{List, [], ◌∷◌, ◌++◌}
 use Prim.Native.Nat.{ℕ}
 use native.Mathlib.Omega.{arith}
 use Rattle.lists.specs.Choices.{pick}
-use Rattle.refusal_rules.specs.Rules.{Rule, refusal_of, judge, first, first_fault, chained, Every, Hold, Give, FirstFailing}
-use Rattle.refusal_rules.specs.declared.Refusal.{Refusal}
-use Rattle.refusal_rules.specs.declared.Verdict.{Verdict}
-use Rattle.refusal_rules.specs.declared.Verdict.TheVariants.{Pass, Fault}
+use Rattle.refusal_rules.specs.Rules.{Refused, Verdict, Pass, Fault, Rule, refusal_of, judge, first, first_fault, chained, Every, Hold, Give, FirstFailing}
 
 -- ---- two verdicts
 
 -- a fault is no pass
-pub fault_pass {ℓ} : {A : Type ℓ} (r : Refusal) → Fault r ≡ Pass → A
+pub fault_pass {ℓ} : {A : Type ℓ} (r : Refused) → Fault r ≡ Pass → A
 fault_pass r e = let z : ◌≡◌ {A = ℕ} 0 1 = cc in let y : ⊥ = omega arith in absurd y
 
 -- the first fault of three verdicts, grouped either way
@@ -78,18 +75,18 @@ hold_pass [] h = refl
 hold_pass (r ∷ rs) h = pass_both (judge r) (first_fault rs) (judge-holds r h.0) (hold_pass rs h.1)
 
 -- tables that are joined
-pub first_fault-append : (rs ss : List Rule) → first_fault (rs ++ ss) ≡ first (first_fault rs) (first_fault ss)
+pub joined_faults : (rs ss : List Rule) → first_fault (rs ++ ss) ≡ first (first_fault rs) (first_fault ss)
 unfolding first_fault first
-first_fault-append [] ss = refl
-first_fault-append (r ∷ rs) ss =
-    ap (first (judge r)) (first_fault-append rs ss) ∙ sym (first_assoc (judge r) (first_fault rs) (first_fault ss))
+joined_faults [] ss = refl
+joined_faults (r ∷ rs) ss =
+    ap (first (judge r)) (joined_faults rs ss) ∙ sym (first_assoc (judge r) (first_fault rs) (first_fault ss))
 
 -- where the first of them comes to a verdict
 pub joined : (rs ss : List Rule) (v : Verdict) → first_fault rs ≡ v → first_fault (rs ++ ss) ≡ first v (first_fault ss)
-joined rs ss v e = first_fault-append rs ss ∙ ap (λ (x : Verdict). first x (first_fault ss)) e
+joined rs ss v e = joined_faults rs ss ∙ ap (λ (x : Verdict). first x (first_fault ss)) e
 
 -- a fault of the first is that of both together
-pub fault_joined : (rs ss : List Rule) (f : Refusal) → first_fault rs ≡ Fault f → Fault f ≡ first_fault (rs ++ ss)
+pub fault_joined : (rs ss : List Rule) (f : Refused) → first_fault rs ≡ Fault f → Fault f ≡ first_fault (rs ++ ss)
 unfolding first
 fault_joined rs ss f e = sym (joined rs ss (Fault f) e)
 
@@ -100,10 +97,10 @@ pass_joined rs ss e = sym (joined rs ss Pass e)
 
 -- where both together pass, each does
 pub joined_pass : (rs ss : List Rule) → first_fault (rs ++ ss) ≡ Pass → (first_fault rs ≡ Pass) × (first_fault ss ≡ Pass)
-joined_pass rs ss e = both_pass (first_fault rs) (first_fault ss) (sym (first_fault-append rs ss) ∙ e)
+joined_pass rs ss e = both_pass (first_fault rs) (first_fault ss) (sym (joined_faults rs ss) ∙ e)
 
 -- a table's fault is the refusal of its first rule that fails
-pub fault_first : (rs : List Rule) (f : Refusal) → first_fault rs ≡ Fault f → FirstFailing rs f
+pub fault_first : (rs : List Rule) (f : Refused) → first_fault rs ≡ Fault f → FirstFailing rs f
 unfolding first_fault first
 fault_first [] f e = fault_pass f (sym e)
 fault_first (r ∷ rs) f e = step r.holds refl (fault_first rs f)
@@ -125,11 +122,11 @@ fault_first (r ∷ rs) f e = step r.holds refl (fault_first rs f)
         record { before = []; failing = r; after = rs; split = refl; hold = tt; fails = h; gives = cc }
 
 -- and the other way round
-pub first_fault_lem : (rs : List Rule) (f : Refusal) → FirstFailing rs f → first_fault rs ≡ Fault f
+pub first_fault_lem : (rs : List Rule) (f : Refused) → FirstFailing rs f → first_fault rs ≡ Fault f
 unfolding first_fault first
 first_fault_lem rs f x =
     ap first_fault x.split
-    ∙ first_fault-append x.before (x.failing ∷ x.after)
+    ∙ joined_faults x.before (x.failing ∷ x.after)
     ∙ rw (hold_pass x.before x.hold, judge-fails x.failing x.fails) (ap Fault (sym x.gives))
 
 -- the rules of tables that are joined: of the first
@@ -159,7 +156,7 @@ pub also : {P Q : Type 0} → P → Q → P × Q
 also p q = (p, q)
 
 -- where every rule gives the same refusal, that is the fault
-pub same_fault : (rs : List Rule) (f r : Refusal) → Give f rs → FirstFailing rs r → r ≡ f
+pub same_fault : (rs : List Rule) (f r : Refused) → Give f rs → FirstFailing rs r → r ≡ f
 same_fault rs f r g x =
     x.gives ∙ (every_right (λ q. refusal_of q ≡ f) x.before (x.failing ∷ x.after) (subst (Give f) x.split g)).0
 
@@ -169,7 +166,7 @@ unfolding chained first_fault
 chained-first v [] = sym (first_pass v)
 chained-first v (r ∷ rs) = chained-first (first v (judge r)) rs ∙ first_assoc v (judge r) (first_fault rs)
 
--- what a chain of calls of `check` gives is what the table says, after a verdict
+-- what rules give that are applied one after another is what the table says, after a verdict
 pub by_chain : (v : Verdict) (rs : List Rule) {r : Verdict} → r ≡ chained v rs → r ≡ first v (first_fault rs)
 by_chain v rs e = e ∙ chained-first v rs
 

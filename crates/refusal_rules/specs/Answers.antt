@@ -1,16 +1,12 @@
 -- What a call answers, as document 01 has it, "What comes back": a value, or a refusal, which "carries number and place, no value".
 --
--- In code an answer is an enum. For each such enum a definition gives what each of its cases says, in these terms, and the
--- contract is that what the call's answer says equals what the call's definition gives.
+-- In code an answer is a `Result`, and a call's contract is that what its result says, in these terms, equals what the call's
+-- definition gives.
 -- Assumes nothing.
-use Rattle.std.specs.Prelude.{ℕ, ◌*◌, ℤ}
-use Rattle.refusal_rules.specs.declared.NumberAnswer.{NumberAnswer}
+use Rattle.std.specs.Prelude.{ℕ, ◌*◌, Result, Ok, Err}
+use Rattle.refusal_rules.specs.Rules.{Refused, Verdict, Pass, Fault, numbered}
 use Rattle.refusal_rules.specs.declared.Place.{Place}
-use Rattle.refusal_rules.specs.declared.PlaceAnswer.{PlaceAnswer}
-use Rattle.refusal_rules.specs.declared.SizeAnswer.{SizeAnswer}
-use Rattle.refusal_rules.specs.declared.Verdict.{Verdict}
-use Rattle.refusal_rules.specs.declared.Verdict.TheVariants.{Pass, Fault}
-use Rattle.refusal_rules.specs.declared.WordAnswer.{WordAnswer}
+use Rattle.refusal_rules.specs.declared.Refusal.{Refusal}
 
 -- a value, or the number and the place of a refusal
 pub data Answer (Value : Type 0) : Type 0 where
@@ -32,25 +28,15 @@ abbrev pub and_then : {Value Other : Type 0} → Answer Value → (Value → Ans
 and_then (gives v) h = h v
 and_then (refuses n p) h = refuses n p
 
--- what each case of a `NumberAnswer` says: an unsigned number, or the refusal
-abbrev pub number_says : NumberAnswer → Answer ℕ
-number_says (NumberAnswer.Value n) = gives n
-number_says (NumberAnswer.Refused r) = refuses r.number r.place
+-- what a call's result says: the value, or the number and the place of the refusal
+abbrev pub says : {Value : Type 0} → Result Value Refusal → Answer Value
+says (Ok v) = gives v
+says (Err r) = refuses (numbered r).number (numbered r).place
 
--- what each case of a `WordAnswer` says: a signed word, or the refusal
-abbrev pub word_says : WordAnswer → Answer ℤ
-word_says (WordAnswer.Value v) = gives v
-word_says (WordAnswer.Refused r) = refuses r.number r.place
-
--- what each case of a `SizeAnswer` says: an address, a length or a count, or the refusal
-abbrev pub size_says : SizeAnswer → Answer ℕ
-size_says (SizeAnswer.Value n) = gives n
-size_says (SizeAnswer.Refused r) = refuses r.number r.place
-
--- what each case of a `PlaceAnswer` says: a place, or the refusal
-abbrev pub place_says : PlaceAnswer → Answer Place
-place_says (PlaceAnswer.At p) = gives p
-place_says (PlaceAnswer.Refused r) = refuses r.number r.place
+-- the verdict that the result of a call is which applies rules
+abbrev pub verdict_of : {Value : Type 0} → Result Value Refusal → Verdict
+verdict_of (Ok v) = Pass
+verdict_of (Err r) = Fault (numbered r)
 
 -- the place of so many bytes at an address
 abbrev pub place : ℕ → ℕ → Place

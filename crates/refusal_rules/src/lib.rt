@@ -1,94 +1,94 @@
-// Refusals, answers, the verdict that rules come to, tables of rules and the tests that rules are made of. There is no code here: see specs/ and proofs/.
+// Refusals, answers, the verdict that rules come to, tables of rules and the tests that rules are made of: see specs/ and proofs/.
 #![tactic(auto)]
 
-// What a call answers where it refuses. "Refusal", its number and its place are document 01's terms: the number is that of a row of
-// its table, and the place is the one that the row gives.
-#[derive(Clone, Copy)]
-pub struct Refusal {
-    pub number: u32,
-    pub place: u64,
+ghost use Rattle.std.specs.Prelude.{◌≡◌};
+ghost use Rattle.refusal_rules.specs.Rules.{numbered};
+
+use std::error::Error;
+use std::fmt;
+
+// Why a call refuses: a variant for each row of document 01's table of refusals, with those of document 02, request 5. "Refusal" is its term. A variant holds the place
+// where the row gives one that depends on the file, the number of a word.
+#[derive(Clone, Copy, Debug, PartialEq, Eq)]
+pub enum Refusal {
+    // The file is shorter than 256 (AREA), 44 (GRID) or 16,384 (MD) bytes.
+    ShortFile,
+    // AREA word 2 is 4 in neither byte order.
+    NoByteOrder,
+    // A count is outside its bounds. The place is its word.
+    CountOutOfBounds(usize),
+    // A word is unequal to its rule, and the place is the word; or a band map is unusable, and the place is 19.
+    RuleBroken(usize),
+    // Something is outside the file, or over another part. The place is its word.
+    Misplaced(usize),
+    // A grid slot is empty, a block is absent, or a prefix region has length 0.
+    Absent,
+    // There is no such line, element, slot, band, grid, point, field or key, or the layout is of another kind.
+    NoSuch,
+    // A sample to store does not fit the bytes of a sample.
+    TooLarge,
+    // The layout is stale: opening these bytes does not give it.
+    Stale,
+    // A lent output is too short.
+    ShortOutput,
+    // A word is no date, or no time of day.
+    NoDate,
+    // The values or the header of a grid to add are of the wrong length.
+    WrongLength,
+    // A grid is to be added, and the file has no empty slot.
+    NoEmptySlot,
+    // A grid is to be added, and the file has no room for it.
+    NoRoom,
 }
 
-// The file is shorter than 256 (AREA), 44 (GRID) or 16,384 (MD) bytes. Place 0.
-pub const SHORT_FILE: u32 = 1;
+impl Refusal {
+    // Document 01's number of a refusal.
+    pub fn number(self) -> u32
+        ensures { result ≡ (numbered self).number }
+    {
+        match self {
+            Refusal::ShortFile => 1,
+            Refusal::NoByteOrder => 2,
+            Refusal::CountOutOfBounds(_) => 3,
+            Refusal::RuleBroken(_) => 4,
+            Refusal::Misplaced(_) => 5,
+            Refusal::Absent => 6,
+            Refusal::NoSuch => 7,
+            Refusal::TooLarge => 8,
+            Refusal::Stale => 9,
+            Refusal::ShortOutput => 10,
+            Refusal::NoDate => 11,
+            Refusal::WrongLength => 12,
+            Refusal::NoEmptySlot => 13,
+            Refusal::NoRoom => 14,
+        }
+    }
 
-// AREA word 2 is 4 in neither byte order. Place 2.
-pub const NO_BYTE_ORDER: u32 = 2;
-
-// A count is outside its bounds. The place is its word.
-pub const COUNT_OUT_OF_BOUNDS: u32 = 3;
-
-// A word is unequal to its rule, and the place is the word; or a band map is unusable, and the place is 19.
-pub const RULE_BROKEN: u32 = 4;
-
-// Something is outside the file, or over another part. The place is its word.
-pub const MISPLACED: u32 = 5;
-
-// A grid slot is empty, a block is absent, or a prefix region has length 0. Place 0.
-pub const ABSENT: u32 = 6;
-
-// There is no such line, element, slot, band, grid, point, field or key, or the layout is of another kind. Place 0.
-pub const NO_SUCH: u32 = 7;
-
-// A sample to store does not fit the bytes of a sample. Place 0.
-pub const TOO_LARGE: u32 = 8;
-
-// The layout is stale: opening these bytes does not give it. Place 0.
-pub const STALE: u32 = 9;
-
-// A lent output is too short. Place 0.
-pub const SHORT_OUTPUT: u32 = 10;
-
-// A word is no date, or no time of day. Place 0.
-pub const NO_DATE: u32 = 11;
-
-// The values or the header of a grid to add are of the wrong length. Place 0.
-pub const WRONG_LENGTH: u32 = 12;
-
-// A grid is to be added, and the file has no empty slot. Place 0.
-pub const NO_EMPTY_SLOT: u32 = 13;
-
-// A grid is to be added, and the file has no room for it. Place 0.
-pub const NO_ROOM: u32 = 14;
-
-// What a call answers whose value is an unsigned number of 32 bits: the value, or a refusal.
-#[derive(Clone, Copy)]
-pub enum NumberAnswer {
-    Value(u32),
-    Refused(Refusal),
+    // Document 01's place of a refusal.
+    pub fn place(self) -> u64
+        ensures { result ≡ (numbered self).place }
+    {
+        match self {
+            Refusal::NoByteOrder => 2,
+            Refusal::CountOutOfBounds(word) => word as u64,
+            Refusal::RuleBroken(word) => word as u64,
+            Refusal::Misplaced(word) => word as u64,
+            _ => 0,
+        }
+    }
 }
 
-// What a call answers whose value is a signed word: the value, or a refusal.
-#[derive(Clone, Copy)]
-pub enum WordAnswer {
-    Value(i32),
-    Refused(Refusal),
+impl fmt::Display for Refusal {
+    fn fmt<W: fmt::Write>(&self, f: &mut fmt::Formatter<W>) -> fmt::Result {
+        write!(f, "refused with {} at {}", self.number(), self.place())
+    }
 }
 
-// What a call answers whose value is an address, a length or a count: the value, or a refusal.
-#[derive(Clone, Copy)]
-pub enum SizeAnswer {
-    Value(usize),
-    Refused(Refusal),
-}
+impl Error for Refusal {}
 
 // Where a value lies: the byte at which it starts, and how many bytes it has. "Place" is document 01's term.
-#[derive(Clone, Copy)]
+#[derive(Clone, Copy, Debug, PartialEq, Eq)]
 pub struct Place {
     pub address: usize,
     pub width: usize,
-}
-
-// What a call answers that finds a place: the place, or a refusal.
-#[derive(Clone, Copy)]
-pub enum PlaceAnswer {
-    At(Place),
-    Refused(Refusal),
-}
-
-// What the rules that were applied so far say: they all hold, or the first that does not gives this refusal.
-#[derive(Clone, Copy)]
-pub enum Verdict {
-    Pass,
-    Fault(Refusal),
 }

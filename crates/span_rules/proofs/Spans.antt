@@ -1,18 +1,14 @@
--- What is handed back: as many bytes as the span says, each the file's and where that lies, and none where the answer is a refusal. And what an answer says settles the answer, so
--- that a contract over what it says leaves no second answer.
+-- What is handed back: as many bytes as the span says, each the file's and where that lies, and none where the answer is a refusal.
 -- Assumes nothing.
-use mathlib.Core.Path.{◌≡◌, refl, sym, ap}
+use mathlib.Core.Path.{◌≡◌, refl}
 use mathlib.Core.List.{List, []}
 use Prim.Native.Nat.{ℕ, ◌+◌, ◌<◌}
 use native.Mathlib.Omega.{arith}
 use lib.ListN.{length, get_or}
 use Rattle.lists.proofs.Parts.{length-part, get_or-part}
 use Rattle.refusal_rules.specs.Answers.{gives, refuses}
-use Rattle.refusal_rules.proofs.Answers.{gives-refuses, gives-same, refuses-same}
-use Rattle.span_rules.specs.Spans.{span_says, handed, handed_at, Inside}
+use Rattle.span_rules.specs.Spans.{handed, handed_at, Inside}
 use Rattle.span_rules.specs.declared.Span.{Span}
-use Rattle.span_rules.specs.declared.SpanAnswer.{SpanAnswer}
-use Rattle.span_rules.specs.declared.SpanAnswer.TheVariants.{At, Refused}
 
 -- as many bytes are handed back as the span says
 pub handed-length : (f : List ℕ) (s : Span) → Inside f (gives s) → length (handed f (gives s)) ≡ s.length
@@ -29,10 +25,3 @@ handed_there at s i = (refl, omega arith)
 -- nothing is handed back where the answer is a refusal
 pub handed_refused : (f : List ℕ) (n p : ℕ) → handed f (refuses n p) ≡ []
 handed_refused f n p = refl
-
--- what an answer says settles the answer
-pub span_settled : (x y : SpanAnswer) → span_says x ≡ span_says y → x ≡ y
-span_settled (At s) (At t) e = ap At (gives-same e)
-span_settled (At s) (Refused r) e = gives-refuses e
-span_settled (Refused r) (At t) e = gives-refuses (sym e)
-span_settled (Refused r) (Refused s) e = ap Refused (refuses-same e)

@@ -6,13 +6,6 @@ use Rattle.std.specs.Borrow.{Bor}
 use Rattle.lists.specs.Lists.{part}
 use Rattle.refusal_rules.specs.Answers.{Answer, gives, refuses}
 use Rattle.span_rules.specs.declared.Span.{Span}
-use Rattle.span_rules.specs.declared.SpanAnswer.{SpanAnswer}
-use Rattle.span_rules.specs.declared.SpanAnswer.TheVariants.{At, Refused}
-
--- what each case of the answer of a call says that gives start and length of a part
-abbrev pub span_says : SpanAnswer → Answer Span
-span_says (At s) = gives s
-span_says (Refused r) = refuses r.number r.place
 
 -- the span of so many bytes from a start on
 abbrev pub span : ℕ → ℕ → Span

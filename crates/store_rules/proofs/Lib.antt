@@ -1,4 +1,3 @@
 pub mod Puts
 pub mod Stores
 pub mod Single
-pub mod Answers

@@ -1,221 +1,123 @@
 // What the program writes behind a line: numbers, each with a mark before it, or the number and place of a refusal.
-use calendar_rules::{DateAnswer, TimeAnswer};
-use endian::unsigned;
+use calendar_rules::{Date, TimeOfDay};
 use extent_rules::Extent;
-use grid_update_rules::AddAnswer;
-use grid_updates_by_value::{PLACES, SHORT_PLACES};
-use layout_rules::{Layout, Opening};
-use refusal_rules::{NumberAnswer, Refusal, SizeAnswer, WordAnswer};
-use span_rules::SpanAnswer;
+use grid_update_rules::Added;
+use layout_rules::Layout;
+use refusal_rules::Refusal;
+use span_rules::Span;
+use std::fmt::Display;
 use std::io;
-use store_rules::StoreAnswer;
 
-// The mark before the first number.
-pub const FIRST: char = ':';
-
-// The mark before each number behind the first.
-pub const NEXT: char = ',';
-
-// The mark before the length of a stretch, behind its start.
-const PLUS: char = '+';
-
-// The mark before the value of a byte, behind its index.
-pub const EQUALS: char = '=';
-
-// Writes text.
-pub fn print(rt: &impl Print, text: &[u8]) -> io::Result<()> {
-    rt.write_all(text)
+// A value that a call answers, as the program writes it behind a line.
+pub trait Told {
+    fn tell(self, rt: &impl Print) -> io::Result<()>;
 }
 
-// Ends a line.
-pub fn end_line(rt: &impl Print) -> io::Result<()> {
-    println!(rt)
-}
-
-// Writes a mark, a space and a number.
-pub fn say(rt: &impl Print, mark: char, n: u64) -> io::Result<()> {
-    print!(rt; "{mark} {n}")
-}
-
-// Writes a mark, a space, a minus sign and a number.
-fn say_minus(rt: &impl Print, mark: char, n: u64) -> io::Result<()> {
-    print!(rt; "{mark} -{n}")
-}
-
-// Writes a mark and a signed word.
-pub fn say_word(rt: &impl Print, mark: char, v: i32) -> io::Result<()> {
-    let n = unsigned(v);
-    if n < 2147483648 {
-        say(rt, mark, n as u64)
-    } else {
-        say_minus(rt, mark, 4294967296 - n as u64)
+// An unsigned number.
+impl Told for u32 {
+    fn tell(self, rt: &impl Print) -> io::Result<()> {
+        print!(rt; ": {self}")
     }
 }
 
-// Writes three numbers.
-fn say_three(rt: &impl Print, a: u32, b: u32, c: u32) -> io::Result<()> {
-    say(rt, FIRST, a as u64)?;
-    say(rt, NEXT, b as u64)?;
-    say(rt, NEXT, c as u64)
-}
-
-// Writes a refusal: its number and place.
-fn say_refusal(rt: &impl Print, refusal: Refusal) -> io::Result<()> {
-    let number = refusal.number;
-    let place = refusal.place;
-    print!(rt; ": refused {number} at {place}")
-}
-
-// Writes an unsigned number, or the refusal.
-pub fn say_number(rt: &impl Print, answer: NumberAnswer) -> io::Result<()> {
-    match answer {
-        NumberAnswer::Value(n) => say(rt, FIRST, n as u64),
-        NumberAnswer::Refused(refusal) => say_refusal(rt, refusal),
+// A signed word.
+impl Told for i32 {
+    fn tell(self, rt: &impl Print) -> io::Result<()> {
+        print!(rt; ": {self}")
     }
 }
 
-// Writes a signed word, or the refusal.
-pub fn say_signed(rt: &impl Print, answer: WordAnswer) -> io::Result<()> {
-    match answer {
-        WordAnswer::Value(v) => say_word(rt, FIRST, v),
-        WordAnswer::Refused(refusal) => say_refusal(rt, refusal),
+// A size, as how many places a copy wrote.
+impl Told for usize {
+    fn tell(self, rt: &impl Print) -> io::Result<()> {
+        print!(rt; ": {self}")
     }
 }
 
-// Writes a size, as how many places a copy wrote, or the refusal.
-pub fn say_size(rt: &impl Print, answer: SizeAnswer) -> io::Result<()> {
-    match answer {
-        SizeAnswer::Value(n) => say(rt, FIRST, n as u64),
-        SizeAnswer::Refused(refusal) => say_refusal(rt, refusal),
+// The start and the length of a part of the file.
+impl Told for Span {
+    fn tell(self, rt: &impl Print) -> io::Result<()> {
+        print!(rt; ": {}, {}", self.start, self.length)
     }
 }
 
-// Writes the start and the length of a part of the file, or the refusal.
-pub fn say_span(rt: &impl Print, answer: SpanAnswer) -> io::Result<()> {
-    match answer {
-        SpanAnswer::At(span) => {
-            say(rt, FIRST, span.start as u64)?;
-            say(rt, NEXT, span.length as u64)
+// That a store was made.
+impl Told for () {
+    fn tell(self, rt: &impl Print) -> io::Result<()> {
+        print!(rt; ": stored")
+    }
+}
+
+// The number and the address of a grid that was added, and how many free stretches there are.
+impl Told for Added {
+    fn tell(self, rt: &impl Print) -> io::Result<()> {
+        print!(rt; ": {}, {}, {}", self.number, self.address, self.stretches)
+    }
+}
+
+// Year, month and day.
+impl Told for Date {
+    fn tell(self, rt: &impl Print) -> io::Result<()> {
+        print!(rt; ": {}, {}, {}", self.year, self.month, self.day)
+    }
+}
+
+// Hours, minutes and seconds.
+impl Told for TimeOfDay {
+    fn tell(self, rt: &impl Print) -> io::Result<()> {
+        print!(rt; ": {}, {}, {}", self.hours, self.minutes, self.seconds)
+    }
+}
+
+// Offset, rows and columns of a grid that was opened, and of another file that it was opened.
+impl Told for Layout {
+    fn tell(self, rt: &impl Print) -> io::Result<()> {
+        match self {
+            Layout::Grid(grid) => print!(rt; ": {}, {}, {}", grid.offset, grid.rows, grid.columns),
+            _ => print!(rt; ": opened"),
         }
-        SpanAnswer::Refused(refusal) => say_refusal(rt, refusal),
     }
 }
 
-// A byte as a number.
-fn wide(byte: u8) -> u64 {
-    byte as u64
+// Writes what a call answers: its value, or the number and the place of its refusal.
+pub fn say<T: Told>(rt: &impl Print, answer: Result<T, Refusal>) -> io::Result<()> {
+    match answer {
+        Ok(value) => value.tell(rt),
+        Err(refusal) => print!(rt; ": refused {} at {}", refusal.number(), refusal.place()),
+    }
 }
 
 // Writes of bytes that are handed back how many they are, the first and the last.
 pub fn say_ends(rt: &impl Print, bytes: &[u8]) -> io::Result<()> {
-    let length = bytes.len();
-    say(rt, NEXT, length as u64)?;
-    if 0 < length {
-        say(rt, NEXT, wide(bytes[0]))?;
-        say(rt, NEXT, wide(bytes[length - 1]))?;
+    print!(rt; ", {}", bytes.len())?;
+    if let (Some(first), Some(last)) = (bytes.first(), bytes.last()) {
+        print!(rt; ", {first}, {last}")?;
     }
     Ok(())
 }
 
-// A number of 32 bits as one of 64.
-fn wider(n: u32) -> u64 {
-    n as u64
-}
-
-// Writes each place of an output of unsigned numbers.
-pub fn say_numbers(rt: &impl Print, out: &[u32]) -> io::Result<()> {
+// Writes each place of an output of numbers.
+pub fn say_each<T: Display>(rt: &impl Print, out: &[T]) -> io::Result<()> {
     for n in out {
-        say(rt, NEXT, wider(*n))?;
+        print!(rt; ", {n}")?;
     }
     Ok(())
 }
 
-// Writes each place of an output of signed words.
-pub fn say_words(rt: &impl Print, out: &[i32]) -> io::Result<()> {
-    for v in out {
-        say_word(rt, NEXT, *v)?;
+// Writes each place of a table of stretches: its start and its length.
+pub fn say_places(rt: &impl Print, table: &[Extent]) -> io::Result<()> {
+    for place in table {
+        print!(rt; ", {}+ {}", place.start, place.length)?;
     }
     Ok(())
 }
 
-// Writes that a store was made, or the refusal.
-pub fn say_store(rt: &impl Print, answer: StoreAnswer) -> io::Result<()> {
-    match answer {
-        StoreAnswer::Done => print(rt, b": stored"),
-        StoreAnswer::Refused(refusal) => say_refusal(rt, refusal),
-    }
-}
-
-// Writes a place of a table: its start and its length.
-fn say_place(rt: &impl Print, place: Extent) -> io::Result<()> {
-    say(rt, NEXT, place.start as u64)?;
-    say(rt, PLUS, place.length as u64)
-}
-
-// Writes the start and the length of a stretch, where it is not empty.
-fn say_stretch(rt: &impl Print, stretch: Extent) -> io::Result<()> {
-    if 0 < stretch.length {
-        say_place(rt, stretch)?;
-    }
-    Ok(())
-}
-
-// Writes each stretch of a table that is not empty.
-pub fn say_table(rt: &impl Print, table: [Extent; PLACES]) -> io::Result<()> {
-    for stretch in &table {
-        say_stretch(rt, *stretch)?;
-    }
-    Ok(())
-}
-
-// Writes each place of a short table.
-pub fn say_places(rt: &impl Print, table: [Extent; SHORT_PLACES]) -> io::Result<()> {
-    say_place(rt, table[0])?;
-    say_place(rt, table[1])?;
-    say_place(rt, table[2])?;
-    say_place(rt, table[3])
-}
-
-// Writes the number and the address of a grid that was added and how many free stretches there are, or the refusal.
-pub fn say_added(rt: &impl Print, answer: AddAnswer) -> io::Result<()> {
-    match answer {
-        AddAnswer::Done(added) => {
-            say(rt, FIRST, added.number as u64)?;
-            say(rt, NEXT, added.address as u64)?;
-            say(rt, NEXT, added.stretches as u64)
+// Writes each stretch of a table that is not empty: its start and its length.
+pub fn say_stretches(rt: &impl Print, table: &[Extent]) -> io::Result<()> {
+    for stretch in table {
+        if 0 < stretch.length {
+            print!(rt; ", {}+ {}", stretch.start, stretch.length)?;
         }
-        AddAnswer::Refused(refusal) => say_refusal(rt, refusal),
     }
-}
-
-// Writes year, month and day, or the refusal.
-pub fn say_date(rt: &impl Print, answer: DateAnswer) -> io::Result<()> {
-    match answer {
-        DateAnswer::On(date) => say_three(rt, date.year, date.month, date.day),
-        DateAnswer::Refused(refusal) => say_refusal(rt, refusal),
-    }
-}
-
-// Writes hours, minutes and seconds, or the refusal.
-pub fn say_time(rt: &impl Print, answer: TimeAnswer) -> io::Result<()> {
-    match answer {
-        TimeAnswer::At(time) => say_three(rt, time.hours, time.minutes, time.seconds),
-        TimeAnswer::Refused(refusal) => say_refusal(rt, refusal),
-    }
-}
-
-// Writes offset, rows and columns of a grid that was opened, and of another file that it was opened.
-fn say_layout(rt: &impl Print, layout: Layout) -> io::Result<()> {
-    match layout {
-        Layout::Grid(grid) => say_three(rt, grid.offset, grid.rows, grid.columns),
-        _ => print(rt, b": opened"),
-    }
-}
-
-// Writes what an opening gives, or the refusal.
-pub fn say_opening(rt: &impl Print, answer: Opening) -> io::Result<()> {
-    match answer {
-        Opening::Opened(layout) => say_layout(rt, layout),
-        Opening::Refused(refusal) => say_refusal(rt, refusal),
-    }
+    Ok(())
 }

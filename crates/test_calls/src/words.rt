@@ -1,30 +1,230 @@
-// The lines of a script: where one ends, which word it begins with, and its numbers.
-ghost use Rattle.std.specs.Prelude.{◌≤◌, length};
+// The words of a script, and the numbers of a line.
+use area_rules::{Block, Region};
+use endian::unsigned;
+use std::str::FromStr;
 
-// The byte that ends a line.
-pub const LINE_FEED: u8 = 10;
+// A kind of file.
+#[derive(Clone, Copy, Debug, PartialEq, Eq)]
+pub enum Kind {
+    Area,
+    Grid,
+    Md,
+}
 
-// The byte that ends a word.
-const SPACE: u8 = 32;
+// A call that reads a file with a layout.
+#[derive(Clone, Copy, Debug, PartialEq, Eq)]
+pub enum ReadCall {
+    // `sample LINE ELEMENT SLOT`
+    Sample,
+    // `band-sample LINE ELEMENT BAND`
+    BandSample,
+    // `line LINE SLOT PLACES`
+    Line,
+    // `band-line LINE BAND PLACES`
+    BandLine,
+    // `band-slot BAND`
+    BandSlot,
+    // `dir`, `nav`, `cal`, `aux`, `data`, `audit`
+    Block(Block),
+    // `validity-code LINE`, `documentation LINE`, `calibration LINE`, `band-list LINE`, `padding LINE`
+    Region(Region),
+    // `point ROW COLUMN`
+    Point,
+    // `header`
+    Header,
+    // `field ROW COLUMN POSITION`
+    Field,
+    // `key NUMBER BYTES`: the name is the first bytes of the four bytes of a number in big order with four zeros behind them.
+    Key,
+    // `by-columns PLACES`
+    ByColumns,
+    // `by-rows PLACES`
+    ByRows,
+    // `record PLACES ROW COLUMN`
+    Record,
+}
 
-// The byte before a negative number.
-const MINUS: u8 = 45;
+// A call that stores a number with a layout.
+#[derive(Clone, Copy, Debug, PartialEq, Eq)]
+pub enum StoreCall {
+    // `store-sample LINE ELEMENT SLOT NUMBER`
+    Sample,
+    // `store-band LINE ELEMENT BAND NUMBER`
+    Band,
+    // `store-point ROW COLUMN NUMBER`
+    Point,
+    // `store-field ROW COLUMN POSITION NUMBER`
+    Field,
+}
 
-// The digit 0, which the others follow.
-const ZERO: u8 = 48;
+// A call that needs no layout.
+#[derive(Clone, Copy, Debug, PartialEq, Eq)]
+pub enum PlainCall {
+    // `delete NUMBER`
+    Delete,
+    // `add ROWS COLUMNS FIRST VALUES BYTES`
+    Add,
+    // `add-short ROWS COLUMNS FIRST VALUES BYTES`
+    AddShort,
+    // `delete-short NUMBER`
+    DeleteShort,
+    // `stretches`
+    Stretches,
+    // `word K` writes word K, counted from 0.
+    Word,
+    // `date WORD`
+    Date,
+    // `time WORD`
+    Time,
+    // `words K=N ..` sets words, each by its number and its value. AREA counts words from 1, the others from 0.
+    Words,
+    // `with K N NUMBER` opens the file with word K as N, where it is a GRID file the grid of a number.
+    With,
+}
 
-// The digit 9.
-const NINE: u8 = 57;
+// What a line of a script asks for.
+#[derive(Clone, Copy, Debug, PartialEq, Eq)]
+pub enum Call {
+    Read(ReadCall),
+    Store(StoreCall),
+    Plain(PlainCall),
+    // `area LENGTH` makes an AREA file of a length in bytes, at most 16,484. Its directory holds 0, and each byte i behind it i modulo 256: a value shows where it
+    // was read. `grid LENGTH` and `md LENGTH` make a GRID file and an MD file likewise. Each word k holds k, and the bytes behind the last whole word hold 0.
+    Make(Kind),
+    // `open NUMBER` opens the file, where it is a GRID file the grid of a number.
+    Open,
+    // `keep` keeps a copy of the file, in place of the one before.
+    Keep,
+    // `restore` puts the bytes of the copy back, as many as both have.
+    Restore,
+    // `differences` writes each byte of the file that differs from the copy.
+    Differences,
+}
 
-// A number of a line, and whether the line has it. Where it has not, the number is 0.
-#[derive(Clone, Copy)]
-pub struct Number {
-    pub present: bool,
-    pub word: u32,
+// A word that is no call.
+#[derive(Clone, Copy, Debug, PartialEq, Eq)]
+pub struct NoCall;
+
+impl FromStr for ReadCall {
+    type Err = NoCall;
+
+    fn from_str(word: &str) -> Result<ReadCall, NoCall> {
+        match word {
+            "sample" => Ok(ReadCall::Sample),
+            "band-sample" => Ok(ReadCall::BandSample),
+            "line" => Ok(ReadCall::Line),
+            "band-line" => Ok(ReadCall::BandLine),
+            "band-slot" => Ok(ReadCall::BandSlot),
+            "point" => Ok(ReadCall::Point),
+            "header" => Ok(ReadCall::Header),
+            "field" => Ok(ReadCall::Field),
+            "key" => Ok(ReadCall::Key),
+            "by-columns" => Ok(ReadCall::ByColumns),
+            "by-rows" => Ok(ReadCall::ByRows),
+            "record" => Ok(ReadCall::Record),
+            _ => part_named(word),
+        }
+    }
+}
+
+// The call that reads the block or the region of a word.
+fn part_named(word: &str) -> Result<ReadCall, NoCall> {
+    match word {
+        "dir" => Ok(ReadCall::Block(Block::Dir)),
+        "nav" => Ok(ReadCall::Block(Block::Nav)),
+        "cal" => Ok(ReadCall::Block(Block::Cal)),
+        "aux" => Ok(ReadCall::Block(Block::Aux)),
+        "data" => Ok(ReadCall::Block(Block::Data)),
+        "audit" => Ok(ReadCall::Block(Block::Audit)),
+        "validity-code" => Ok(ReadCall::Region(Region::Validity)),
+        "documentation" => Ok(ReadCall::Region(Region::Documentation)),
+        "calibration" => Ok(ReadCall::Region(Region::Calibration)),
+        "band-list" => Ok(ReadCall::Region(Region::BandList)),
+        "padding" => Ok(ReadCall::Region(Region::Padding)),
+        _ => Err(NoCall),
+    }
+}
+
+impl FromStr for StoreCall {
+    type Err = NoCall;
+
+    fn from_str(word: &str) -> Result<StoreCall, NoCall> {
+        match word {
+            "store-sample" => Ok(StoreCall::Sample),
+            "store-band" => Ok(StoreCall::Band),
+            "store-point" => Ok(StoreCall::Point),
+            "store-field" => Ok(StoreCall::Field),
+            _ => Err(NoCall),
+        }
+    }
+}
+
+impl FromStr for PlainCall {
+    type Err = NoCall;
+
+    fn from_str(word: &str) -> Result<PlainCall, NoCall> {
+        match word {
+            "delete" => Ok(PlainCall::Delete),
+            "add" => Ok(PlainCall::Add),
+            "add-short" => Ok(PlainCall::AddShort),
+            "delete-short" => Ok(PlainCall::DeleteShort),
+            "stretches" => Ok(PlainCall::Stretches),
+            "word" => Ok(PlainCall::Word),
+            "date" => Ok(PlainCall::Date),
+            "time" => Ok(PlainCall::Time),
+            "words" => Ok(PlainCall::Words),
+            "with" => Ok(PlainCall::With),
+            _ => Err(NoCall),
+        }
+    }
+}
+
+impl FromStr for Call {
+    type Err = NoCall;
+
+    fn from_str(word: &str) -> Result<Call, NoCall> {
+        match word {
+            "area" => Ok(Call::Make(Kind::Area)),
+            "grid" => Ok(Call::Make(Kind::Grid)),
+            "md" => Ok(Call::Make(Kind::Md)),
+            "open" => Ok(Call::Open),
+            "keep" => Ok(Call::Keep),
+            "restore" => Ok(Call::Restore),
+            "differences" => Ok(Call::Differences),
+            _ => other_named(word),
+        }
+    }
+}
+
+// The call of a word that reads, stores or needs no layout.
+fn other_named(word: &str) -> Result<Call, NoCall> {
+    if let Ok(read) = word.parse() {
+        return Ok(Call::Read(read));
+    }
+    if let Ok(store) = word.parse() {
+        return Ok(Call::Store(store));
+    }
+    Ok(Call::Plain(word.parse()?))
+}
+
+// The call of the word that a line begins with.
+pub fn call_of(line: &str) -> Result<Call, NoCall> {
+    match line.split_once(' ') {
+        Some((word, _)) => word.parse(),
+        None => line.parse(),
+    }
+}
+
+// The number that a text is, as a word: an unsigned number of 32 bits, or a negative one in two's complement.
+pub fn number(text: &str) -> Option<u32> {
+    match text.parse::<u32>() {
+        Ok(n) => Some(n),
+        Err(_) => Some(unsigned(text.parse::<i32>().ok()?)),
+    }
 }
 
 // The first five numbers of a line, 0 for each that it has not.
-#[derive(Clone, Copy)]
+#[derive(Clone, Copy, Debug, PartialEq, Eq)]
 pub struct Numbers {
     pub a: u32,
     pub b: u32,
@@ -33,131 +233,19 @@ pub struct Numbers {
     pub e: u32,
 }
 
-// A number that is being read: whether a digit of it has been, whether a minus sign stands before it, and what its digits are, cut to 32 bits.
-#[derive(Clone, Copy)]
-struct Reading {
-    begun: bool,
-    negative: bool,
-    digits: u32,
+// The first five numbers of a line: those of its texts between spaces that are numbers.
+pub fn numbers_in(line: &str) -> Numbers {
+    let mut numbers = line.split(' ').filter_map(number);
+    let a = numbers.next().unwrap_or(0);
+    let b = numbers.next().unwrap_or(0);
+    let c = numbers.next().unwrap_or(0);
+    let d = numbers.next().unwrap_or(0);
+    let e = numbers.next().unwrap_or(0);
+    Numbers { a, b, c, d, e }
 }
 
-// The index of the first byte of a value from an index on, or the length of the text where there is none.
-pub fn index_from(text: &[u8], at: usize, byte: u8) -> usize
-    requires { at ≤ length text.now }
-    ensures { (at ≤ result) × (result ≤ length text.now) }
-{
-    let mut end = at;
-    while end < text.len() {
-        if text[end] == byte {
-            return end;
-        }
-        end += 1;
-    }
-    end
-}
-
-// Whether a line begins with a word, with a space or nothing behind it.
-fn begins(line: &[u8], word: &[u8]) -> bool {
-    if !line.starts_with(word) {
-        return false;
-    }
-    match line.get(word.len()) {
-        Some(byte) => *byte == SPACE,
-        None => true,
-    }
-}
-
-// The number, counted from 0, of the word that a line begins with, in a list of words with a space between them; where it begins with none of them, how many they are.
-pub fn word_number(line: &[u8], list: &[u8]) -> u32 {
-    let mut k: u32 = 0;
-    let mut at = 0;
-    while at < list.len() {
-        let end = index_from(list, at, SPACE);
-        if begins(line, &list[at..end]) {
-            return k;
-        }
-        k = k.wrapping_add(1);
-        at = end + 1;
-    }
-    k
-}
-
-// A reading with a byte more. A byte that is no digit begins another number.
-fn read_on(reading: Reading, byte: u8) -> Reading {
-    if ZERO <= byte {
-        if byte <= NINE {
-            let digits = 10 * reading.digits as u64 + (byte - ZERO) as u64;
-            return Reading {
-                begun: true,
-                negative: reading.negative,
-                digits: (digits % 4294967296) as u32,
-            };
-        }
-    }
-    Reading {
-        begun: false,
-        negative: byte == MINUS,
-        digits: 0,
-    }
-}
-
-// The number that has been read, as a word in two's complement.
-fn number_of(reading: Reading) -> Number {
-    let digits = reading.digits as u64;
-    if reading.negative {
-        return Number {
-            present: reading.begun,
-            word: ((4294967296 - digits) % 4294967296) as u32,
-        };
-    }
-    Number {
-        present: reading.begun,
-        word: reading.digits,
-    }
-}
-
-// The number at an index of a line, counted from 0. Numbers are runs of decimal digits, negative where a minus sign stands straight before them. Any other byte parts
-// them.
-pub fn number_in(line: &[u8], index: usize) -> Number {
-    let mut left = index;
-    let mut reading = Reading {
-        begun: false,
-        negative: false,
-        digits: 0,
-    };
-    for byte in line {
-        let next = read_on(reading, *byte);
-        if reading.begun {
-            if !next.begun {
-                if left == 0 {
-                    return number_of(reading);
-                }
-                left -= 1;
-            }
-        }
-        reading = next;
-    }
-    if left == 0 {
-        return number_of(reading);
-    }
-    Number {
-        present: false,
-        word: 0,
-    }
-}
-
-// The first five numbers of a line.
-pub fn numbers_in(line: &[u8]) -> Numbers {
-    let a = number_in(line, 0);
-    let b = number_in(line, 1);
-    let c = number_in(line, 2);
-    let d = number_in(line, 3);
-    let e = number_in(line, 4);
-    Numbers {
-        a: a.word,
-        b: b.word,
-        c: c.word,
-        d: d.word,
-        e: e.word,
-    }
+// A word of a file that a line sets, written K=N: its number and its value.
+pub fn word_set(text: &str) -> Option<(u32, u32)> {
+    let (k, n) = text.split_once('=')?;
+    Some((number(k)?, number(n)?))
 }

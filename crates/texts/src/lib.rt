@@ -30,10 +30,8 @@ pub fn append_bytes(text: Text, more: &[u8]) -> Text
     ensures { result ≡ append_bytes text more.now }
 {
     let mut t = text;
-    let mut i = 0;
-    while i < more.len() {
-        t = append_byte(t, more[i]);
-        i += 1;
+    for byte in more {
+        t = append_byte(t, *byte);
     }
     t
 }

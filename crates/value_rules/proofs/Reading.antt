@@ -52,11 +52,11 @@ module _ (f : List ℕ) (l : Layout) (x : ValueName) (p : Place) where
   )
 
   -- its bytes are inside the file, and there are one to four
-  pub place-room : place_in f l x ≡ gives p → ((1 ≤ p.width) × (p.width ≤ 4)) × (p.address + p.width ≤ length f)
-  place-room e = let at = (place_exactly.0 e).1 in (place-width at, place-inside at)
+  pub place_room : place_in f l x ≡ gives p → ((1 ≤ p.width) × (p.width ≤ 4)) × (p.address + p.width ≤ length f)
+  place_room e = let at = (place_exactly.0 e).1 in (place-width at, place-inside at)
 
-  pub read-inside : place_in f l x ≡ gives p → (p.width ≤ 4) × (p.address + p.width ≤ length f)
-  read-inside e = let room = place-room e in (room.0.1, room.1)
+  pub read_inside : place_in f l x ≡ gives p → (p.width ≤ 4) × (p.address + p.width ≤ length f)
+  read_inside e = let room = place_room e in (room.0.1, room.1)
 
   -- a signed word has four
   pub word_inside : IsWord x → place_in f l x ≡ gives p → p.address + 4 ≤ length f

@@ -1,9 +1,8 @@
--- `area_blocks::block_span` meets its contract: the layout that is found has the span, and a refusal is passed on.
+-- `area_blocks::block_span` meets its contract: the layout that is found is one that an accepted file has.
 -- Assumes nothing.
-use mathlib.Core.Path.{sym, ap, ◌∙◌}
-use Rattle.area_rules.specs.Opening.{area_says}
+use mathlib.Core.Path.{sym}
 use Rattle.layout_rules.proofs.OneKind.{area_known}
 use Rattle.area_blocks.proofs.block_span.Goals as goal
 
 pub span_of-requires : goal.span_of-requires
-span_of-requires c = (area_known _ _ _ (sym c.area_of.ensures ∙ ap area_says c.in-Opened.is)).fits
+span_of-requires c = (area_known _ _ _ (sym c.in_ok-l.ensures)).fits

@@ -1,16 +1,11 @@
--- `area_places::sample_place` meets its contract: the slot, and then the verdict on line and element, pick the answer.
+-- `area_places::sample_place` meets its contract: the layout that is within bounds is the one that has the line, the element and the slot.
 -- Assumes nothing.
-use mathlib.Core.Path.{sym, ap, ◌∙◌}
+use mathlib.Core.Path.{sym}
 use native.Mathlib.Omega.{arith}
-use Rattle.refusal_rules.specs.Answers.{number_says}
-use Rattle.refusal_rules.proofs.Tables.{pass_hold}
 use Rattle.area_rules.proofs.Bands.{named_slot-inside}
-use Rattle.area_rules.proofs.Tables.{samples_hold}
 use Rattle.area_places.proofs.sample_place.Goals as goal
 
 pub sample_address-requires : goal.sample_address-requires
 sample_address-requires c =
-    let s = c in
-    let (bounds, (line, element)) = (samples_hold _ _ _).0 (pass_hold _ (sym c.sample_verdict.ensures ∙ c.in-Pass.is)) in
-    let slot = named_slot-inside s.args.layout s.args.which _ (sym c.slot_of.ensures ∙ ap number_says c.in-Value.is) in
-    (bounds, (omega arith, (omega arith, omega arith)))
+    let slot = named_slot-inside c.args.layout c.args.which _ (sym c.in_ok-slot.ensures) in
+    rw c.in_ok-bounded.ensures.same (omega arith, (omega arith, omega arith))

@@ -1,9 +1,8 @@
--- `area_prefixes::region_span` meets its contract: the layout that is found has the span, and a refusal is passed on.
+-- `area_prefixes::region_span` meets its contract: the layout that is found is one that an accepted file has.
 -- Assumes nothing.
-use mathlib.Core.Path.{sym, ap, ◌∙◌}
-use Rattle.area_rules.specs.Opening.{area_says}
+use mathlib.Core.Path.{sym}
 use Rattle.layout_rules.proofs.OneKind.{area_known}
 use Rattle.area_prefixes.proofs.region_span.Goals as goal
 
 pub region_of-requires : goal.region_of-requires
-region_of-requires c = (area_known _ _ _ (sym c.area_of.ensures ∙ ap area_says c.in-Opened.is)).fits
+region_of-requires c = (area_known _ _ _ (sym c.in_ok-l.ensures)).fits

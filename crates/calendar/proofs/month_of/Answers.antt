@@ -1,21 +1,16 @@
--- `calendar::month_of` meets its contract. The loop goes down from December: no month after the one it is at begins before the day
--- ends.
+-- `calendar::month_of` meets its contract. The loop goes up from February: each month before the one it is at begins before the day ends.
 -- Assumes nothing.
-use mathlib.Core.Path.{sym, ◌∙◌}
+use mathlib.Core.Path.{◌≡◌, sym, ◌∙◌}
+use Prim.Native.Nat.{suc, ◌-◌, ◌≤◌}
 use native.Mathlib.Omega.{arith}
-use Rattle.calendar_rules.proofs.Months.{last_here, last_back}
+use Rattle.calendar_rules.specs.Gregorian.{days_before}
+use Rattle.calendar_rules.proofs.Months.{last_stays}
 use Rattle.calendar.proofs.month_of.Goals as goal
 
-pub returns-then-days_before-day : goal.returns-then-days_before-day
-returns-then-days_before-day c =
+pub returns-then-day-days_before : goal.returns-then-day-days_before
+returns-then-day-days_before c =
     let a = c.args in
     let l = c.loop-month in
-    sym (last_here a.leap a.day l.month c.loop-month-test.true (rw c.days_before.ensures at c.if-days_before-day.true)) ∙ l.invariant.1
-
-pub loop-month-preserved : goal.loop-month-preserved
-loop-month-preserved c =
-    let a = c.args in
-    let l = c.loop-month in (
-      omega arith,
-      sym (last_back a.leap a.day l.month c.loop-month-test.true (rw c.days_before.ensures at c.if-days_before-day.false)) ∙ l.invariant.1,
-    )
+    let here : suc (l.month - 1) ≡ l.month = omega arith in
+    let past : a.day ≤ days_before a.leap (suc (l.month - 1)) = rw here (omega (arith, c.days_before.ensures)) in
+    sym (last_stays a.leap a.day (l.month - 1) 11 (omega arith) past ∙ l.invariant)

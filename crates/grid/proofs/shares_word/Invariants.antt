@@ -2,13 +2,9 @@
 -- Assumes nothing.
 use mathlib.Core.Path.{◌≡◌}
 use mathlib.Core.Bool.{false}
-use Prim.Native.Nat.{◌-◌, ◌≤◌}
 use Rattle.endian_rules.specs.Words.{word_at}
 use Rattle.grid_rules.specs.Rules.{shares}
 use Rattle.grid.proofs.shares_word.Given as goal
 
 abbrev pub invariant-loop-j : goal.invariant-loop-j
-invariant-loop-j l = (l.j ≤ l.k) × (shares (word_at l.order l.file) l.low l.high l.j ≡ false)
-
-abbrev pub decreases-loop-j : goal.decreases-loop-j
-decreases-loop-j l = l.k - l.j
+invariant-loop-j l = shares (word_at l.directory.order l.directory.file.now) l.low l.high l.j ≡ false

@@ -1,15 +1,10 @@
 -- `grid::slots_verdict` meets its contract: all slots before the one that the loop is at have passed.
 -- Assumes nothing.
 use mathlib.Core.Path.{◌≡◌}
-use Prim.Native.Nat.{◌-◌, ◌≤◌}
 use Rattle.endian_rules.specs.Words.{word_at}
-use Rattle.refusal_rules.specs.Rules.{first_fault}
-use Rattle.refusal_rules.specs.declared.Verdict.TheVariants.{Pass}
+use Rattle.refusal_rules.specs.Rules.{first_fault, Pass}
 use Rattle.grid_rules.specs.Rules.{slots_rules}
 use Rattle.grid.proofs.slots_verdict.Given as goal
 
 abbrev pub invariant-loop-k : goal.invariant-loop-k
-invariant-loop-k l = (l.k ≤ l.n) × (first_fault (slots_rules (word_at l.order l.file) l.n l.next l.k) ≡ Pass)
-
-abbrev pub decreases-loop-k : goal.decreases-loop-k
-decreases-loop-k l = l.n - l.k
+invariant-loop-k l = first_fault (slots_rules (word_at l.directory.order l.directory.file.now) l.directory.grids l.directory.next l.k) ≡ Pass

@@ -2,13 +2,10 @@
 -- Assumes nothing.
 use mathlib.Core.Path.{◌≡◌}
 use mathlib.Core.Bool.{false}
-use Prim.Native.Nat.{ℕ, ◌-◌, ◌≤◌, ◌<◌}
+use Prim.Native.Nat.{ℕ, ◌<◌}
 use Rattle.endian_rules.specs.Words.{word_at}
 use Rattle.grid_rules.specs.Rules.{is_empty_slot}
 use Rattle.grid_update_steps.proofs.lowest_empty.Given as goal
 
 abbrev pub invariant-loop-k : goal.invariant-loop-k
-invariant-loop-k l = (l.k ≤ l.n) × ((l.n ≡ word_at l.order l.file 10) × ((q : ℕ) → q < l.k → is_empty_slot (word_at l.order l.file) q ≡ false))
-
-abbrev pub decreases-loop-k : goal.decreases-loop-k
-decreases-loop-k l = l.n - l.k
+invariant-loop-k l = (q : ℕ) → q < l.k → is_empty_slot (word_at l.accepted.order l.accepted.file.now) q ≡ false

@@ -5,5 +5,5 @@ use Rattle.refusal_rules.proofs.Answers.{gives-refuses}
 use Rattle.listing_rules.proofs.Page.{listing_fits}
 use Rattle.list_output.proofs.print_listing.Goals as goal
 
-pub returns-in-Refused : goal.returns-in-Refused
-returns-in-Refused g c = gives-refuses (sym (listing_fits c.args.file.now (replicate 512 0) c.in-Refused.ensures (omega arith)).0)
+pub returns-in-Err : goal.returns-in-Err
+returns-in-Err g c = gives-refuses (sym (listing_fits c.args.file.now (replicate 512 0) c.in-Err.ensures (omega arith)).0)

@@ -1,16 +1,11 @@
 -- `listing_text::text_of` meets its contract: the text is that of what the listing says, or that the file is too long.
 -- Assumes nothing.
-use mathlib.Core.Path.{◌≡◌, sym, ap, ◌∙◌}
-use mathlib.Core.List.{List, ◌++◌}
-use Prim.Native.Nat.{ℕ, ◌≤◌}
-use lib.ListN.{length, take}
+use Rattle.std.proofs.Common.{◌≡◌, ℕ, ◌≤◌, List, length, take, Result, Ok, Err, sym, ap, ◌∙◌}
+use Rattle.refusal_rules.specs.Answers.{says}
 use Rattle.refusal_rules.specs.declared.Refusal.{Refusal}
-use Rattle.area_rules.specs.Opening.{area_says}
 use Rattle.area_rules.specs.declared.AreaLayout.{AreaLayout}
-use Rattle.area_rules.specs.declared.AreaOpening.{AreaOpening}
-use Rattle.area_rules.specs.declared.AreaOpening.TheVariants.{Opened, Refused}
 use Rattle.listing_rules.specs.Listing.{listing_of}
-use Rattle.listing_rules.specs.Page.{layout_lines, block_lines, refusal_line, listing_text}
+use Rattle.listing_rules.specs.Page.{answer_text, refusal_line, listing_text}
 use Rattle.listing_rules.specs.Steps.{empty_text, append_bytes}
 use Rattle.listing_rules.specs.declared.BlockList.{BlockList}
 use Rattle.listing_rules.proofs.Appending.{append_more, append_three}
@@ -18,12 +13,9 @@ use Rattle.listing_rules.proofs.Page.{listing_six, listing_said, listing_too_lon
 use Rattle.listing_text.proofs.text_of.Goals as goal
 
 -- the text of a file that is short enough, by what opening it answers
-module _ (f : List ℕ) {o : AreaOpening} {b : BlockList} (e : (area_says o, b) ≡ listing_of f) (h : length f ≤ 65536) where
-  opened : {l : AreaLayout} → o ≡ Opened l → layout_lines l ++ block_lines (take b.count b.entries) ≡ listing_text f
-  opened q = listing_said f (ap (λ x. (area_says x, b)) (sym q) ∙ e) h
-
-  refused : {r : Refusal} → o ≡ Refused r → refusal_line r.number r.place ≡ listing_text f
-  refused q = listing_said f (ap (λ x. (area_says x, b)) (sym q) ∙ e) h
+said : (f : List ℕ) (opening : Result AreaLayout Refusal) {o : Result AreaLayout Refusal} {b : BlockList} → (says o, b) ≡ listing_of f → o ≡ opening
+    → length f ≤ 65536 → append_bytes empty_text (answer_text (says opening) (take b.count b.entries)) ≡ append_bytes empty_text (listing_text f)
+said f opening {b = b} e q h = ap (append_bytes empty_text) (listing_said f (ap (λ (x : Result AreaLayout Refusal). (says x, b)) (sym q) ∙ e) h)
 
 pub returns-then-file-gt65536 : goal.returns-then-file-gt65536
 unfolding empty_text
@@ -32,23 +24,16 @@ returns-then-file-gt65536 c =
     ∙ ap (append_bytes empty_text) (sym (listing_too_long c.args.file.now c.if-file-gt65536.true))
 
 pub append_blocks-requires : goal.append_blocks-requires
-append_blocks-requires c = let a = c in listing_six a.args.file.now a.list_area-listing.ensures
+append_blocks-requires c = listing_six c.args.file.now c.list_area-listing.ensures
 
-pub returns-in-Opened : goal.returns-in-Opened
+pub returns-in-Ok : goal.returns-in-Ok
 unfolding empty_text
-returns-in-Opened c =
-    let a = c in
+returns-in-Ok c =
     rw (c.append_blocks.ensures, c.append_layout.ensures)
-    (sym (append_more _ _ _)
-    ∙ ap (append_bytes empty_text)
-    (opened a.args.file.now a.list_area-listing.ensures a.if-file-gt65536.false c.in-Opened.is))
+    (sym (append_more _ _ _) ∙ said c.args.file.now (Ok c.in-Ok.layout) c.list_area-listing.ensures c.in-Ok.is c.if-file-gt65536.false)
 
-pub returns-in-Refused : goal.returns-in-Refused
+pub returns-in-Err : goal.returns-in-Err
 unfolding empty_text refusal_line
-returns-in-Refused c =
-    let o = c in
-    let a = o in
-    rw (c.append_bytes-in-Refused.ensures, c.append_two-line.ensures)
-    (append_three _ _ _ _
-    ∙ ap (append_bytes empty_text)
-    (refused a.args.file.now a.list_area-listing.ensures a.if-file-gt65536.false o.in-Refused.is))
+returns-in-Err c =
+    rw (c.append_bytes-in-Err.ensures, c.append_two-line.ensures, c.number-number.ensures, c.place.ensures)
+    (append_three _ _ _ _ ∙ said c.args.file.now (Err c.in-Err.refusal) c.list_area-listing.ensures c.in-Err.is c.if-file-gt65536.false)

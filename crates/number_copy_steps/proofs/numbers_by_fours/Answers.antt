@@ -1,6 +1,5 @@
 -- `number_copy_steps::numbers_by_fours` meets its contract: the invariant is that the first i places hold the first i numbers. The rest is filled one by one.
 -- Assumes nothing.
-use Prim.Native.Nat.{◌-◌}
 use native.Mathlib.Omega.{arith}
 use Rattle.copy_rules.proofs.Runs.{none_filled, four_filled, rest_inside, rest_filled}
 use Rattle.number_copy_steps.proofs.numbers_by_fours.Goals as goal

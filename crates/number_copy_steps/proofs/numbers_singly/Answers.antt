@@ -1,6 +1,5 @@
 -- `number_copy_steps::numbers_singly` meets its contract: after i turns the first i places hold the first i numbers.
 -- Assumes nothing.
-use Prim.Native.Nat.{◌-◌}
 use Rattle.copy_rules.proofs.Runs.{none_filled, one_filled}
 use Rattle.number_copy_steps.proofs.numbers_singly.Goals as goal
 

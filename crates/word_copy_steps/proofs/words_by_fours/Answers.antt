@@ -1,6 +1,5 @@
 -- `word_copy_steps::words_by_fours` meets its contract: the invariant is that the first i places hold the first i words. The rest is filled one by one.
 -- Assumes nothing.
-use Prim.Native.Nat.{◌-◌}
 use native.Mathlib.Omega.{arith}
 use Rattle.copy_rules.proofs.Runs.{none_filled, inside_further, four_filled, rest_inside, rest_filled}
 use Rattle.word_copy_steps.proofs.words_by_fours.Goals as goal

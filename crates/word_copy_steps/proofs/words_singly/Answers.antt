@@ -1,7 +1,6 @@
 -- `word_copy_steps::words_singly` meets its contract: after i turns the first i places hold the first i words.
 -- Assumes nothing.
 use mathlib.Core.Path.{◌∙◌}
-use Prim.Native.Nat.{◌-◌}
 use native.Mathlib.Omega.{arith}
 use Rattle.endian_rules.proofs.Signs.{same_word}
 use Rattle.copy_rules.proofs.Runs.{none_filled, one_filled, all_filled}
