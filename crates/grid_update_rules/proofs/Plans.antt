@@ -81,7 +81,7 @@ module _ (o : Order) (f : List ℕ) (headers rows columns values size : ℕ) whe
       omega (arith, p.slot, (accepted_slots o f p.asked.accepted).few)
 
 -- a word that is written is a word that is set
-set_as : (o : Order) (f g : List ℕ) (k l a b : ℕ) → f ≡ g → k ≡ l → a ≡ b → sets f (4 * k) (encode o 4 a) ≡ set_word o g l b
+pub set_as : (o : Order) (f g : List ℕ) (k l a b : ℕ) → f ≡ g → k ≡ l → a ≡ b → sets f (4 * k) (encode o 4 a) ≡ set_word o g l b
 unfolding set_word
 set_as o f g k l a b p q r = rw (p, q, r)
 
@@ -92,7 +92,7 @@ pub refused_step : (o : Order) (f header : List ℕ) (rows columns : ℕ) (value
 unfolding add_step
 refused_step o f header rows columns values size r e = rw (plan_refuses o f (length header) rows columns (length values) size (numbered r) e) refl
 
-added_is : (o : Order) (f : List ℕ) (rows columns count number address : ℕ) → number ≡ lowest_empty (word_at o f) + 1
+pub added_is : (o : Order) (f : List ℕ) (rows columns count number address : ℕ) → number ≡ lowest_empty (word_at o f) + 1
     → address ≡ address_for o f (grid_words rows columns) → record { number = number; address = address; stretches = count } ≡ added o f rows columns count
 added_is o f rows columns count number address p q = rw (p, q)
 
