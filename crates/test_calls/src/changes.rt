@@ -93,10 +93,8 @@ fn made_header() -> [u8; 300] {
 // Values from a first one on, each one more than the one before, modulo 2^32.
 fn values_from(first: u32) -> [i32; 100] {
     let mut values = [0i32; 100];
-    let mut n = first;
-    for value in &mut values {
-        *value = signed(n);
-        n = n.wrapping_add(1);
+    for (i, value) in values.iter_mut().enumerate() {
+        *value = signed(first.wrapping_add(i as u32));
     }
     values
 }

@@ -23,16 +23,33 @@ use words::{Call, Kind, call_of, numbers_in};
 // The most bytes of a file. A file that is longer is not made, and calls on it are skipped.
 const LARGEST: usize = 16484;
 
-// What a script is at: the kind of the file and its length, the layout that opening a file last gave, and the length of the copy that is kept.
-#[derive(Clone, Copy, Debug, PartialEq, Eq)]
+// What a script is at: the order and the kind of the file, its length and the space that it begins, the layout that opening a file last gave, and how many bytes are
+// kept in the copy. Arrays with a length and not Vec: a file that is made finds the bytes that the one before left in the space, and a copy those of the copy before.
+#[derive(Drop)]
 struct Subject {
+    order: Order,
     kind: Kind,
     length: usize,
+    space: [u8; LARGEST],
     layout: Option<Layout>,
     copied: usize,
+    copy: [u8; LARGEST],
 }
 
 impl Subject {
+    // Before the first line there is an AREA file of no bytes, and no layout.
+    fn new(order: Order) -> Subject {
+        Subject {
+            order,
+            kind: Kind::Area,
+            length: 0,
+            space: [0; LARGEST],
+            layout: None,
+            copied: 0,
+            copy: [0; LARGEST],
+        }
+    }
+
     // Begins what a call says: a call that makes a file gives its kind and its length, and one that keeps a copy the length of the copy, even where the file is too long.
     fn begin(&mut self, call: Call, length: usize) {
         match call {
@@ -45,26 +62,13 @@ impl Subject {
         }
     }
 
-    // Opens the file, and keeps the layout where there is one.
-    fn open(&mut self, rt: &impl Print, file: &[u8], order: Order, number: u32) -> io::Result<()> {
-        let opening = open_kind(file, self.kind, order, number);
-        if let Ok(layout) = opening {
-            self.layout = Some(layout);
-        }
-        say(rt, opening)
-    }
-
-    // Does what a line says, and writes what came back. A call that takes a layout does nothing before there is one.
-    fn act(
-        &mut self,
-        rt: &impl Print,
-        order: Order,
-        call: Call,
-        line: &[u8],
-        file: &mut [u8],
-        copy: &mut [u8],
-    ) -> io::Result<()> {
+    // Does what a line says, and writes what came back. A call that takes a layout does nothing before there is one, and none does anything where the file is too long.
+    fn act(&mut self, rt: &impl Print, call: Call, line: &[u8]) -> io::Result<()> {
         let n = numbers_in(line);
+        self.begin(call, n.a as usize);
+        let Some(file) = self.space.get_mut(..self.length) else {
+            return Ok(());
+        };
         match call {
             Call::Read(read) => match self.layout {
                 Some(layout) => ask(rt, file, layout, read, n),
@@ -74,49 +78,28 @@ impl Subject {
                 Some(layout) => store_value(rt, file, layout, store, n),
                 None => Ok(()),
             },
-            Call::Plain(plain) => change(rt, file, order, self.kind, plain, line, n),
-            Call::Make(kind) => Ok(make(file, kind, order)),
-            Call::Open => self.open(rt, file, order, n.a),
-            Call::Keep => Ok(copy_bytes(self.copied, file, copy)),
-            Call::Restore => Ok(copy_bytes(self.copied, copy, file)),
-            Call::Differences => compare(rt, self.copied, file, copy),
+            Call::Plain(plain) => change(rt, file, self.order, self.kind, plain, line, n),
+            Call::Make(kind) => Ok(make(file, kind, self.order)),
+            Call::Open => {
+                let opening = open_kind(file, self.kind, self.order, n.a);
+                self.layout = opening.ok().or(self.layout);
+                say(rt, opening)
+            }
+            Call::Keep => Ok(copy_bytes(self.copied, file, &mut self.copy)),
+            Call::Restore => Ok(copy_bytes(self.copied, &self.copy, file)),
+            Call::Differences => compare(rt, self.copied, file, &self.copy),
         }
     }
 }
 
-// Does what a line says, in the space of the file and that of the copy.
-fn step(
-    rt: &impl Print,
-    subject: &mut Subject,
-    order: Order,
-    call: Call,
-    line: &[u8],
-    space: &mut [u8],
-    copy: &mut [u8],
-) -> io::Result<()> {
-    subject.begin(call, numbers_in(line).a as usize);
-    match space.get_mut(..subject.length) {
-        Some(file) => subject.act(rt, order, call, line, file, copy),
-        None => Ok(()),
-    }
-}
-
-// Runs the lines of a script with files in a byte order. Before the first line there is an AREA file of no bytes, and no layout.
+// Runs the lines of a script with files in a byte order.
 fn run(rt: &impl Print, list: &[u8], script: &[u8], order: Order) -> io::Result<()> {
-    // Spaces with a length in the subject and not Vec: a file that is made finds the bytes that the one before left in its space.
-    let mut space = [0u8; LARGEST];
-    let mut copy = [0u8; LARGEST];
-    let mut subject = Subject {
-        kind: Kind::Area,
-        length: 0,
-        layout: None,
-        copied: 0,
-    };
+    let mut subject = Subject::new(order);
     for part in script.split_inclusive(|byte| *byte == b'\n') {
         let line = part.strip_suffix(b"\n").unwrap_or(part);
         rt.write_all(line)?;
         if let Some(call) = call_of(line, list) {
-            step(rt, &mut subject, order, call, line, &mut space, &mut copy)?;
+            subject.act(rt, call, line)?;
         }
         println!(rt)?;
     }
