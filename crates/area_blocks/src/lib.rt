@@ -54,22 +54,6 @@ fn optional_span(l: AreaLayout, x: u32) -> Result<Span, Refusal>
     })
 }
 
-// The span of AUDIT, which is straight after DATA, and absent where there are no comment cards.
-#[tactic(auto, using(area_rules::proofs::Places::data_length), unfolding(area_part_rules::specs::Blocks::block_of, area_part_rules::specs::Blocks::block_rules, refusal_rules::specs::Rules::first_fault, refusal_rules::specs::Rules::first, refusal_rules::specs::Rules::judge))]
-fn audit_span(l: AreaLayout) -> Result<Span, Refusal>
-    requires { AreaFits l }
-    ensures { says result ≡ block_of l Block.Audit }
-{
-    if l.cards == 0 {
-        return Err(Refusal::Absent);
-    }
-    let data = data_length(l)?;
-    Ok(Span {
-        start: l.data_start as usize + data,
-        length: 80 * l.cards as usize,
-    })
-}
-
 // The span of a block of an accepted file.
 #[tactic(auto, using(area_rules::proofs::Places::data_length), unfolding(area_part_rules::specs::Blocks::block_of, area_part_rules::specs::Blocks::block_rules, refusal_rules::specs::Rules::first_fault, refusal_rules::specs::Rules::first, refusal_rules::specs::Rules::judge, area_part_rules::specs::Blocks::optional_block_of))]
 fn span_of(l: AreaLayout, block: Block) -> Result<Span, Refusal>
@@ -91,7 +75,17 @@ fn span_of(l: AreaLayout, block: Block) -> Result<Span, Refusal>
                 length,
             })
         }
-        Block::Audit => audit_span(l),
+        // Straight after DATA, and absent where there are no comment cards.
+        Block::Audit => {
+            if l.cards == 0 {
+                return Err(Refusal::Absent);
+            }
+            let data = data_length(l)?;
+            Ok(Span {
+                start: l.data_start as usize + data,
+                length: 80 * l.cards as usize,
+            })
+        }
     }
 }
 

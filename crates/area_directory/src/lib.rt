@@ -1,7 +1,7 @@
 // The rules of the words of an AREA directory, as functions over its 64 words. W k, counted from 1, is words[k - 1].
 #![tactic(auto)]
 
-ghost use Rattle.std.specs.Prelude.{◌≡◌, ◌≤◌, leb, ltb, eqb};
+ghost use Rattle.std.specs.Prelude.{◌≡◌, ◌≤◌, leb, ltb, eqb, IfOk};
 ghost use Rattle.lists.specs.Choices.{both, either};
 ghost use Rattle.refusal_rules.specs.Rules.{judge, first_fault, Pass};
 ghost use Rattle.refusal_rules.specs.Answers.{verdict_of};
@@ -20,7 +20,10 @@ fn count(words: &[u32; 64], k: usize, low: u32, high: u32) -> Result<(), Refusal
     requires { (1 ≤ k) × (k ≤ 64) }
     ensures { verdict_of result ≡ judge (area_count (word_in words.now) k low high) }
 {
-    check(within(low, high, words[k - 1]), Refusal::CountOutOfBounds(k))
+    check(
+        within(low, high, words[k - 1]),
+        Refusal::CountOutOfBounds(k),
+    )
 }
 
 // Whether a sample may have n bytes.
@@ -46,42 +49,12 @@ fn count_verdict(words: &[u32; 64]) -> Result<(), Refusal>
     count(words, 64, 0, 65535)
 }
 
-// The line length that the words give, where the counts passed.
-#[tactic(auto, unfolding(area_rules::specs::Rules::word_in))]
-fn line_length_of(words: &[u32; 64]) -> usize
-    requires { first_fault (area_count_rules (word_in words.now)) ≡ Pass }
-    ensures { result ≡ line_length_of (word_in words.now) }
-{
-    line_bytes(words[14], words[13], words[9], words[10])
-}
-
 // The byte after AUDIT. The bounds are those of the counts, and of a line: 196,612 bytes of prefix and 16,776,960 of samples.
 fn end_of_audit(start: u32, lines: u32, line: usize, cards: u32) -> usize
     requires { (lines ≤ 65535) × ((line ≤ 16973572) × (cards ≤ 65535)) }
     ensures { result ≡ audit_end start lines line cards }
 {
     start as usize + lines as usize * line + 80 * cards as usize
-}
-
-// The byte after AUDIT that the words give, where the rules before passed.
-#[tactic(auto, unfolding(area_rules::specs::Rules::word_in))]
-fn audit_end_of(words: &[u32; 64]) -> usize
-    requires { (first_fault (area_count_rules (word_in words.now)) ≡ Pass) × (first_fault (area_shape_rules (word_in words.now)) ≡ Pass) }
-    ensures { result ≡ audit_end_of (word_in words.now) }
-{
-    end_of_audit(words[33], words[8], line_length_of(words), words[63])
-}
-
-// What the rules of the words that follow from others say, where the counts passed.
-#[tactic(auto, unfolding(area_rules::specs::Rules::word_in, area_rules::specs::Rules::area_shape_rules, refusal_rules::specs::Rules::first_fault, refusal_rules::specs::Rules::first))]
-fn shape_verdict(words: &[u32; 64]) -> Result<(), Refusal>
-    requires { first_fault (area_count_rules (word_in words.now)) ≡ Pass }
-    ensures { verdict_of result ≡ first_fault (area_shape_rules (word_in words.now)) }
-{
-    let prefix_fits = is_prefix_length(words[14], words[35] == 0, words[48], words[49], words[50]);
-    check(prefix_fits, Refusal::RuleBroken(15))?;
-    check(line_length_of(words) % 4 == 0, Refusal::RuleBroken(10))?;
-    check(or(words[59] != 0, words[60] == 0), Refusal::RuleBroken(61))
 }
 
 // Whether a block may start at x, in a file of `told` bytes with DATA and AUDIT from `start` to `end`. `after` is whether x, as a signed word, is at
@@ -94,25 +67,91 @@ fn block_start_fits(told: usize, start: u32, end: usize, x: u32, after: bool, un
     or(x == 0, and(after, apart))
 }
 
-// What the rules of the places say, in a file of `told` bytes, where the rules before passed.
-#[tactic(auto, unfolding(area_rules::specs::Rules::word_in, area_rules::specs::Rules::area_place_rules, refusal_rules::specs::Rules::first_fault, refusal_rules::specs::Rules::first))]
-fn place_verdict(told: usize, words: &[u32; 64]) -> Result<(), Refusal>
-    requires { (first_fault (area_count_rules (word_in words.now)) ≡ Pass) × (first_fault (area_shape_rules (word_in words.now)) ≡ Pass) }
-    ensures { verdict_of result ≡ first_fault (area_place_rules told (word_in words.now)) }
-{
-    let end = audit_end_of(words);
-    let start = words[33];
-    let nav = words[34];
-    let cal = words[62];
-    let aux = words[59];
-    check(and(at_least(256, start), end <= told), Refusal::Misplaced(34))?;
-    let nav_fits = block_start_fits(told, start, end, nav, at_least(256, nav), true);
-    check(nav_fits, Refusal::Misplaced(35))?;
-    let cal_fits = block_start_fits(told, start, end, cal, at_least(256, cal), cal != nav);
-    check(cal_fits, Refusal::Misplaced(63))?;
-    let unequal = and(aux != nav, aux != cal);
-    let aux_fits = block_start_fits(told, start, end, aux, at_least(256, aux), unequal);
-    check(aux_fits, Refusal::Misplaced(60))
+// The 64 words of a directory of which the rules of the counts hold.
+#[derive(Clone, Copy)]
+struct Counted<'a> {
+    words: &'a [u32; 64],
+    ghost counted: { first_fault (area_count_rules (word_in words.now)) ≡ Pass },
+}
+
+impl<'a> Counted<'a> {
+    // The words of a directory, or what the rules of the counts refuse.
+    fn new(words: &'a [u32; 64]) -> Result<Counted<'a>, Refusal>
+        ensures rules { verdict_of result ≡ first_fault (area_count_rules (word_in words.now)) }
+        ensures same { IfOk result (λ counted. counted.words.now ≡ words.now) }
+    {
+        count_verdict(words)?;
+        Ok(Counted { words })
+    }
+
+    // The line length that the words give.
+    #[tactic(auto, unfolding(area_rules::specs::Rules::word_in))]
+    fn line_length(&self) -> usize
+        ensures { result ≡ line_length_of (word_in self.now.words.now) }
+    {
+        line_bytes(
+            self.words[14],
+            self.words[13],
+            self.words[9],
+            self.words[10],
+        )
+    }
+
+    // What the rules of the words that follow from others say.
+    #[tactic(auto, unfolding(area_rules::specs::Rules::word_in, area_rules::specs::Rules::area_shape_rules, refusal_rules::specs::Rules::first_fault, refusal_rules::specs::Rules::first))]
+    fn shape_verdict(&self) -> Result<(), Refusal>
+        ensures { verdict_of result ≡ first_fault (area_shape_rules (word_in self.now.words.now)) }
+    {
+        let words = self.words;
+        let prefix_fits = is_prefix_length(
+            words[14],
+            words[35] == 0,
+            words[48],
+            words[49],
+            words[50],
+        );
+        check(prefix_fits, Refusal::RuleBroken(15))?;
+        check(self.line_length() % 4 == 0, Refusal::RuleBroken(10))?;
+        check(words[59] != 0 || words[60] == 0, Refusal::RuleBroken(61))
+    }
+
+    // The byte after AUDIT that the words give, where those that follow from others passed.
+    #[tactic(auto, unfolding(area_rules::specs::Rules::word_in))]
+    fn audit_end(&self) -> usize
+        requires { first_fault (area_shape_rules (word_in self.now.words.now)) ≡ Pass }
+        ensures { result ≡ audit_end_of (word_in self.now.words.now) }
+    {
+        end_of_audit(
+            self.words[33],
+            self.words[8],
+            self.line_length(),
+            self.words[63],
+        )
+    }
+
+    // What the rules of the places say, in a file of `told` bytes, where the words that follow from others passed.
+    #[tactic(auto, unfolding(area_rules::specs::Rules::word_in, area_rules::specs::Rules::area_place_rules, refusal_rules::specs::Rules::first_fault, refusal_rules::specs::Rules::first))]
+    fn place_verdict(&self, told: usize) -> Result<(), Refusal>
+        requires { first_fault (area_shape_rules (word_in self.now.words.now)) ≡ Pass }
+        ensures { verdict_of result ≡ first_fault (area_place_rules told (word_in self.now.words.now)) }
+    {
+        let end = self.audit_end();
+        let start = self.words[33];
+        let nav = self.words[34];
+        let cal = self.words[62];
+        let aux = self.words[59];
+        check(
+            and(at_least(256, start), end <= told),
+            Refusal::Misplaced(34),
+        )?;
+        let nav_fits = block_start_fits(told, start, end, nav, at_least(256, nav), true);
+        check(nav_fits, Refusal::Misplaced(35))?;
+        let cal_fits = block_start_fits(told, start, end, cal, at_least(256, cal), cal != nav);
+        check(cal_fits, Refusal::Misplaced(63))?;
+        let unequal = and(aux != nav, aux != cal);
+        let aux_fits = block_start_fits(told, start, end, aux, at_least(256, aux), unequal);
+        check(aux_fits, Refusal::Misplaced(60))
+    }
 }
 
 // What the rules of counts and of the words that follow from them say of a directory's 64 words: 3 and 4 with document 01's places. These rules
@@ -121,8 +160,7 @@ fn place_verdict(told: usize, words: &[u32; 64]) -> Result<(), Refusal>
 pub fn described_verdict(words: &[u32; 64]) -> Result<(), Refusal>
     ensures { verdict_of result ≡ first_fault (area_described_rules (word_in words.now)) }
 {
-    count_verdict(words)?;
-    shape_verdict(words)
+    Counted::new(words)?.shape_verdict()
 }
 
 // What all rules of the words but W2 say of a directory's 64 words and a file of `told` bytes: 3, 4 and 5 with document 01's places.
@@ -130,6 +168,7 @@ pub fn described_verdict(words: &[u32; 64]) -> Result<(), Refusal>
 pub fn word_verdict(told: usize, words: &[u32; 64]) -> Result<(), Refusal>
     ensures { verdict_of result ≡ first_fault (area_word_rules told (word_in words.now)) }
 {
-    described_verdict(words)?;
-    place_verdict(told, words)
+    let counted = Counted::new(words)?;
+    counted.shape_verdict()?;
+    counted.place_verdict(told)
 }

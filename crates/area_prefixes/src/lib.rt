@@ -53,32 +53,19 @@ fn offset_of(lengths: &[usize; 5], k: usize) -> usize
     lengths[..k].iter().sum()
 }
 
-// Where a region lies in a line prefix of an accepted file: how many bytes there are before it, and how many it has.
-#[tactic(auto, using(crate::proofs::Sums::sum_total))]
-fn region_in_prefix(l: AreaLayout, region: Region) -> Span
-    requires { AreaFits l }
-    ensures { result ≡ span (region_offset l region) (region_length l region) }
-{
-    let lengths = region_lengths(l);
-    let k = region_index(region);
-    Span {
-        start: offset_of(&lengths, k),
-        length: lengths[k],
-    }
-}
-
 // The span of a region of a line's prefix in an accepted file.
-#[tactic(auto, using(area_rules::proofs::Bounds::area_bounded_lem), unfolding(area_rules::specs::Places::line_start_of, area_rules::specs::Places::line_rules, area_part_rules::specs::Regions::region_rules, refusal_rules::specs::Rules::first_fault, refusal_rules::specs::Rules::first, refusal_rules::specs::Rules::judge, area_part_rules::specs::Regions::region_of))]
+#[tactic(auto, using(area_rules::proofs::Bounds::area_bounded_lem, crate::proofs::Sums::sum_total), unfolding(area_rules::specs::Places::line_start_of, area_rules::specs::Places::line_rules, area_part_rules::specs::Regions::region_rules, refusal_rules::specs::Rules::first_fault, refusal_rules::specs::Rules::first, refusal_rules::specs::Rules::judge, area_part_rules::specs::Regions::region_of))]
 fn region_of(l: AreaLayout, line: u32, region: Region) -> Result<Span, Refusal>
     requires { AreaFits l }
     ensures { says result ≡ region_of l line region }
 {
     let start = line_start(l, line)?;
-    let part = region_in_prefix(l, region);
-    check(part.length != 0, Refusal::Absent)?;
+    let lengths = region_lengths(l);
+    let k = region_index(region);
+    check(lengths[k] != 0, Refusal::Absent)?;
     Ok(Span {
-        start: start + part.start,
-        length: part.length,
+        start: start + offset_of(&lengths, k),
+        length: lengths[k],
     })
 }
 

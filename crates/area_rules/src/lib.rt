@@ -61,4 +61,3 @@ pub enum SlotOrBand {
     Slot(u32),
     Band(u32),
 }
-//

@@ -31,6 +31,7 @@ pub fn at_least(low: usize, n: u32) -> bool
 }
 
 // A number for each byte order: 0 for big, 1 for little.
+// A number, since the definitions of equal layouts compare byte orders by it.
 pub fn order_number(order: Order) -> u32
     ensures { result ≡ order_number order }
 {

@@ -6,7 +6,8 @@
 
 ghost use Rattle.std.specs.Prelude.{◌≡◌, ◌+◌, ◌<◌, ◌^◌, ◌≤◌, ◌*◌, length, get_or};
 ghost use Rattle.std.proofs.lemmas.List.Edits.{sets};
-ghost use Rattle.endian_rules.specs.Numbers.{position, digits_at, number_at, encode};
+ghost use Rattle.endian_rules.specs.Numbers.{ordered, position, number_at, encode};
+ghost use Rattle.endian_rules.specs.declared.Order.TheVariants.{Big, Little};
 ghost use Rattle.endian_rules.specs.Words.{signed_at, encode_signed, word_at};
 
 use endian::{signed, unsigned};
@@ -23,29 +24,47 @@ fn digit_position(order: Order, width: usize, at: usize, k: usize) -> usize
     }
 }
 
-// The digit k of a number of `width` bytes at `at`, as a number below 256; 0 where the number has no such digit.
-fn digit(order: Order, width: usize, file: &[u8], at: usize, k: usize) -> u32
-    requires { at + width ≤ length file.now }
-    ensures { (result ≡ get_or (digits_at order width file.now at) k 0) × (result < 256) }
+// The unsigned number of `width` bytes, at most four, at the byte `at`. The caller must make sure that the bytes are inside the file.
+#[tactic(auto, unfolding(endian_rules::proofs::Numbers::sum_of_powers))]
+pub fn read_number(order: Order, width: usize, file: &[u8], at: usize) -> u32
+    requires { (width ≤ 4) × (at + width ≤ length file.now) }
+    ensures { result ≡ number_at order width file.now at }
 {
-    if k < width {
-        let i = digit_position(order, width, at, k);
-        file[i] as u32
+    let end = at + width;
+    let bytes = &file[at..end];
+    // A sum for each order, and a function for the bytes of each: with one function of order and place a copy in little order takes up to twice as many
+    // instructions. Each byte is multiplied by its power of 256. A byte that is not there, since the number has fewer than four, counts 0.
+    match order {
+        // The first byte is the most significant, and the last one is multiplied by 1.
+        Order::Big => byte_from_end(bytes, 3) * 16777216
+            + byte_from_end(bytes, 2) * 65536
+            + byte_from_end(bytes, 1) * 256
+            + byte_from_end(bytes, 0),
+        // The last byte is the most significant, and the first one is multiplied by 1.
+        Order::Little => byte_from_start(bytes, 3) * 16777216
+            + byte_from_start(bytes, 2) * 65536
+            + byte_from_start(bytes, 1) * 256
+            + byte_from_start(bytes, 0),
+    }
+}
+
+// The byte k, counted from 0 at the last one, as a number below 256; 0 where there is none. In big order it is the digit k.
+fn byte_from_end(bytes: &[u8], k: usize) -> u32
+    ensures { (result ≡ get_or (ordered Big bytes.now) k 0) × (result < 256) }
+{
+    if k < bytes.len() {
+        let i = bytes.len() - 1 - k;
+        bytes[i] as u32
     } else {
         0
     }
 }
 
-// The unsigned number of `width` bytes, at most four, at the byte `at`. The caller must make sure that the bytes are inside the file.
-pub fn read_number(order: Order, width: usize, file: &[u8], at: usize) -> u32
-    requires { (width ≤ 4) × (at + width ≤ length file.now) }
-    ensures { result ≡ number_at order width file.now at }
+// The byte k, counted from 0 at the first one, as a number below 256; 0 where there is none. In little order it is the digit k.
+fn byte_from_start(bytes: &[u8], k: usize) -> u32
+    ensures { (result ≡ get_or (ordered Little bytes.now) k 0) × (result < 256) }
 {
-    // Each digit is multiplied by its power of 256. A digit that is not there, since the number has fewer than four bytes, counts 0.
-    digit(order, width, file, at, 3) * 16777216
-        + digit(order, width, file, at, 2) * 65536
-        + digit(order, width, file, at, 1) * 256
-        + digit(order, width, file, at, 0)
+    if k < bytes.len() { bytes[k] as u32 } else { 0 }
 }
 
 // The signed word at the byte `at`. The caller must make sure that its four bytes are inside the file.

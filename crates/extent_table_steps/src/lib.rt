@@ -9,10 +9,11 @@ ghost use Rattle.extent_rules.specs.Rooms.{searched, lesser};
 
 use endian_rules::Order;
 use extent_rules::Extent;
-use extent_steps::{directory_extent, first_fitting, run_after};
+use extent_steps::{AcceptedFile, directory_extent, first_fitting};
 
 // Fills the first places of a table with the first free stretches of a file, in address order; places past them stay. The caller must make sure that the table
 // has so many places, and that the file is accepted unless there are none to fill.
+// Not an `AcceptedFile` as a parameter: it would ask that a file is accepted of which no stretch is wanted.
 #[tactic(auto, unfolding(extent_rules::specs::Steps::nth_run, lists::specs::Lists::list_of))]
 pub fn fill<'t, 'f>(table: &'t mut [Extent], file: &'f [u8], order: Order, count: usize)
     requires { (count ≤ length table.old) × (0 < count → GridAccepted order file.now) }
@@ -20,7 +21,8 @@ pub fn fill<'t, 'f>(table: &'t mut [Extent], file: &'f [u8], order: Order, count
 {
     let mut e = directory_extent(file, order);
     for place in table[..count].iter_mut() {
-        e = run_after(file, order, e);
+        let accepted = AcceptedFile { file, order };
+        e = accepted.run_after(e);
         *place = e;
     }
 }

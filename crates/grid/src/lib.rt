@@ -16,6 +16,7 @@ use refusal::check;
 use refusal_rules::Refusal;
 
 // Whether two GRID layouts are the same in every field.
+#[tactic(auto, using(lists::proofs::Choices::and_both, lists::proofs::Choices::both_last, endian_rules::proofs::Orders::order_numbers), unfolding(grid_rules::specs::Opening::same_grid, refusal_rules::specs::Tests::same_numbers))]
 pub fn same_grid(a: GridLayout, b: GridLayout) -> bool
     ensures { result ≡ same_grid a b }
 {

@@ -16,5 +16,5 @@ pub struct GridLayout {
     pub columns: u32,
 }
 
-// -1 as a raw word: the offset of an empty slot.
+// -1 as a raw word: the offset of an empty slot. A constant, since it is a word of the file.
 pub const EMPTY_SLOT: u32 = 4294967295;

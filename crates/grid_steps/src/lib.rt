@@ -38,7 +38,7 @@ pub fn head_verdict(file: &[u8], order: Order) -> Result<(), Refusal>
     check(next as usize <= len / 4, Refusal::Misplaced(11 + n))
 }
 
-// One rule more: that a count of rows or columns is from 1 to 65,535.
+// Refusal 3 at a place, unless a count of rows or columns is from 1 to 65,535.
 fn count(n: u32, place: usize) -> Result<(), Refusal>
     ensures { verdict_of result ≡ (judge (rule (within 1 65535 n) 3 place)) }
 {

@@ -10,7 +10,7 @@ use native.Mathlib.Omega.{arith}
 use borrow.Author.Tests.{lt-ltb}
 use lib.IntN.{ℤ}
 use lib.ListN.{length}
-use Rattle.std.specs.Prelude.{Result}
+use Rattle.std.specs.Prelude.{Result, Ok, Err}
 use Rattle.lists.specs.Lists.{list_of, over}
 use Rattle.lists.proofs.Built.{length-list_of, get_or-list_of}
 use Rattle.lists.proofs.Filled.{length-over, over_front, over_again}
@@ -181,13 +181,14 @@ planned_finds o f headers rows columns values t x =
 pub plan_ready : (o : Order) (f header : List ℕ) (rows columns : ℕ) (values : List ℤ) (t : List Extent) (p : AddPlan) (e : Extent)
     → gives p ≡ add_plan o f (length header) rows columns (length values) (length t)
     → e ≡ searched (runs_over o f p.count t) p.need p.count
-    → Ready o f header rows columns values (length t) p e
+    → Ready o f header rows columns values (length t) (Ok p) e
 plan_ready o f header rows columns values t p e given found =
     let is = plan_is o f (length header) rows columns (length values) (length t) p given in
     record {
       planned = given;
-      address =
-          rw (found, is.1)
+      address = λ q same.
+          let this : q ≡ p = cc in
+          rw (this, found, is.1)
           (planned_finds o f (length header) rows columns (length values) t
           ((add_passes o f (length header) rows columns (length values) (length t)).0 is.0));
     }
@@ -219,6 +220,14 @@ module _ (o : Order) (f header : List ℕ) (rows columns : ℕ) (values : List �
       → (refuses r.number r.place, (f, t)) ≡ add_grid o f header rows columns values t
   unfolding add_grid
   add_refused r e = rw (plan_refuses o f (length header) rows columns (length values) (length t) r e)
+
+  -- a plan that is given is carried out, and not refused
+  pub add_allowed {ℓ} : {A : Type ℓ} (p : AddPlan) (r : Refusal) (g : List ℕ) → gives p ≡ add_plan o f (length header) rows columns (length values) (length t)
+      → (addition_says (Err r), g) ≡ add_step o f header rows columns values (length t) → A
+  unfolding add_step
+  add_allowed p r g given e =
+      let is = plan_is o f (length header) rows columns (length values) (length t) p given in
+      gives-refuses (sym (ap (λ (x : (Answer Added × ℕ) × List ℕ). x.0.0) (rw is.0 at e)))
 
   module _ (a : Result Added Refusal) (g : List ℕ) (e : (addition_says a, g) ≡ add_step o f header rows columns values (length t)) where
     -- what was said and left is what the call wants

@@ -10,12 +10,13 @@ use lib.Seq.{sets, length-sets}
 use mir.Syntax.{w32}
 use mir.Val.{Fits}
 use borrow.Author.Tests.{lt-ltb}
-use Rattle.std.specs.Prelude.{Ok}
+use Rattle.std.specs.Prelude.{Ok, Err}
 use Rattle.endian_rules.specs.Numbers.{encode}
 use Rattle.endian_rules.specs.Words.{word_at}
 use Rattle.endian_rules.specs.declared.Order.{Order}
-use Rattle.refusal_rules.specs.Rules.{first_fault, Refused, Verdict, Pass, Fault}
-use Rattle.refusal_rules.specs.Answers.{gives}
+use Rattle.refusal_rules.specs.Rules.{first_fault, Refused, Verdict, Pass, Fault, numbered}
+use Rattle.refusal_rules.specs.Answers.{gives, says}
+use Rattle.refusal_rules.specs.declared.Refusal.{Refusal}
 use Rattle.refusal_rules.proofs.Answers.{gives-same, gives-refuses, refuses-same}
 use Rattle.extent_rules.specs.Stretches.{first_word, highest_end}
 use Rattle.extent_rules.specs.Rooms.{first_fitting}
@@ -25,7 +26,7 @@ use Rattle.extent_rules.specs.declared.Survey.{Survey}
 use Rattle.extent_rules.proofs.Slots.{accepted_slots}
 use Rattle.extent_rules.proofs.Fit.{room-some}
 use Rattle.grid_update_rules.specs.Updates.{set_word, next_free_set, stretches_of, grid_words, lowest_empty, address_for, add_rules, grid_bytes, grid_put, with_grid, added}
-use Rattle.grid_update_rules.specs.Steps.{addition_says, refused_plan, plan_of, planned, add_plan, add_step, Ready}
+use Rattle.grid_update_rules.specs.Steps.{addition_says, refused_plan, plan_of, planned, add_plan, add_step, ReadyPlan}
 use Rattle.grid_update_rules.specs.declared.Added.{Added}
 use Rattle.grid_update_rules.specs.declared.AddPlan.{AddPlan}
 use Rattle.grid_update_rules.proofs.Addition.{new_slot, new_address, new_bytes, grid_in, AddPasses, add_passes, add_place, added-slots, added-small, added_accepted}
@@ -80,19 +81,25 @@ module _ (o : Order) (f : List ℕ) (headers rows columns values size : ℕ) whe
       omega (arith, p.slot, (accepted_slots o f p.asked.accepted).few)
 
 -- a word that is written is a word that is set
-set_as : (o : Order) (f g : List ℕ) (k l a b : ℕ) → f ≡ g → k ≡ l → a ≡ b → sets f (4 * k) (encode o 4 a) ≡ set_word o g l b
+pub set_as : (o : Order) (f g : List ℕ) (k l a b : ℕ) → f ≡ g → k ≡ l → a ≡ b → sets f (4 * k) (encode o 4 a) ≡ set_word o g l b
 unfolding set_word
 set_as o f g k l a b p q r = rw (p, q, r)
 
 -- what is answered
-added_is : (o : Order) (f : List ℕ) (rows columns count number address : ℕ) → number ≡ lowest_empty (word_at o f) + 1
+-- a plan that is refused leaves the file, and its refusal is what adding says
+pub refused_step : (o : Order) (f header : List ℕ) (rows columns : ℕ) (values : List ℤ) (size : ℕ) (r : Refusal)
+    → says (Err r) ≡ add_plan o f (length header) rows columns (length values) size → (addition_says (Err r), f) ≡ add_step o f header rows columns values size
+unfolding add_step
+refused_step o f header rows columns values size r e = rw (plan_refuses o f (length header) rows columns (length values) size (numbered r) e) refl
+
+pub added_is : (o : Order) (f : List ℕ) (rows columns count number address : ℕ) → number ≡ lowest_empty (word_at o f) + 1
     → address ≡ address_for o f (grid_words rows columns) → record { number = number; address = address; stretches = count } ≡ added o f rows columns count
 added_is o f rows columns count number address p q = rw (p, q)
 
 -- Carrying out the plan of an addition: the grid's bytes are written where the room for them begins, which makes g of a file f; its slot is set, which makes h,
 -- and then the next free word, which makes k.
 module _ (o : Order) (f header : List ℕ) (rows columns : ℕ) (values : List ℤ) (size : ℕ) (plan : AddPlan) (found : Extent)
-    (ready : Ready o f header rows columns values size plan found) (room : Extent) (e : room ≡ first_fitting plan.need found plan.last) where
+    (ready : ReadyPlan o f header rows columns values size plan found) (room : Extent) (e : room ≡ first_fitting plan.need found plan.last) where
   -- the rules have passed
   passed : first_fault (add_rules o f (length header) rows columns (length values) size) ≡ Pass
   passed = (plan_is o f (length header) rows columns (length values) size plan ready.planned).0

@@ -4,7 +4,7 @@ use Rattle.std.specs.Prelude.{◌≡◌, List, ℕ, ◌+◌, ◌-◌, ℤ, lengt
 use Rattle.endian_rules.specs.Words.{word_at}
 use Rattle.endian_rules.specs.declared.Order.{Order}
 use Rattle.refusal_rules.specs.Rules.{first_fault, Refused, Verdict, Pass, Fault, numbered}
-use Rattle.refusal_rules.specs.Answers.{Answer, gives, refuses}
+use Rattle.refusal_rules.specs.Answers.{Answer, gives, refuses, says}
 use Rattle.refusal_rules.specs.declared.Refusal.{Refusal}
 use Rattle.extent_rules.specs.Rooms.{first_fitting}
 use Rattle.extent_rules.specs.Steps.{nth_run}
@@ -66,8 +66,13 @@ unfoldable pub add_step : Order → List ℕ → List ℕ → ℕ → ℕ → Li
 add_step o f header rows columns values size =
     stepped (first_fault (add_rules o f (length header) rows columns (length values) size)) (added o f rows columns) o f (with_grid o f header rows columns values)
 
--- What carrying out a plan asks: that it is the plan, which its rules allow, and that what was found among the free stretches before the last, or else the last,
+-- What carrying out a plan asks that its rules allow: that it is the plan, and that what was found among the free stretches before the last, or else the last,
 -- begins at the lowest address at which the grid has room.
-pub record Ready (o : Order) (f header : List ℕ) (rows columns : ℕ) (values : List ℤ) (size : ℕ) (plan : AddPlan) (found : Extent) : Type 0 where
+pub record ReadyPlan (o : Order) (f header : List ℕ) (rows columns : ℕ) (values : List ℤ) (size : ℕ) (plan : AddPlan) (found : Extent) : Type 0 where
   pub planned : gives plan ≡ add_plan o f (length header) rows columns (length values) size
   pub address : (first_fitting plan.need found plan.last).start ≡ address_for o f (grid_words rows columns)
+
+-- What carrying out a plan asks, be it refused or not: that it is the plan, and that what was found begins at that address where the plan is not refused.
+pub record Ready (o : Order) (f header : List ℕ) (rows columns : ℕ) (values : List ℤ) (size : ℕ) (plan : Result AddPlan Refusal) (found : Extent) : Type 0 where
+  pub planned : says plan ≡ add_plan o f (length header) rows columns (length values) size
+  pub address : (p : AddPlan) → plan ≡ Ok p → (first_fitting p.need found p.last).start ≡ address_for o f (grid_words rows columns)

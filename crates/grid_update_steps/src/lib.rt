@@ -9,15 +9,15 @@ ghost use Rattle.endian_rules.specs.Words.{word_at};
 ghost use Rattle.endian_rules.specs.Files.{bytes_of};
 ghost use Rattle.refusal_rules.specs.Rules.{first_fault};
 ghost use Rattle.extent_rules.specs.Stretches.{first_word, highest_end};
-ghost use Rattle.extent_rules.specs.Steps.{SlotsInside, GridAccepted};
+ghost use Rattle.extent_rules.specs.Steps.{SlotsInside};
 ghost use Rattle.grid_update_rules.specs.Updates.{next_free_set, delete_rules, lowest_empty, add_rules, grid_bytes};
-ghost use Rattle.grid_update_rules.specs.Steps.{stretch_says, delete_step, add_plan, addition_says, add_step, Ready};
+ghost use Rattle.grid_update_rules.specs.Steps.{stretch_says, delete_step, add_plan, addition_says, add_step, Ready, ReadyPlan};
 ghost use Rattle.refusal_rules.specs.Answers.{says, verdict_of};
 
 use endian_rules::Order;
 use endian_steps::{read_word, write_number, write_signed};
 use extent_rules::Extent;
-use extent_steps::{first_fitting, has_room, highest_end, survey_free};
+use extent_steps::{AcceptedFile, GridSlots, first_fitting};
 use grid::file_verdict;
 use grid_rules::EMPTY_SLOT;
 use grid_update_rules::{AddPlan, Added};
@@ -25,14 +25,15 @@ use refusal::{check, within};
 use refusal_rules::Refusal;
 
 // Sets the next free word to the end of the highest grid, or to 12 + n where there is none. The directory must be inside the file, and each grid, and the end must
-// be a signed word.
+// be a signed word. Not a method of `GridSlots`, which reads a file: here the file is changed.
 #[tactic(auto, unfolding(grid_update_rules::specs::Updates::next_free_set, grid_update_rules::specs::Updates::set_word))]
 fn set_next_free(file: &mut [u8], order: Order)
     requires { SlotsInside (length file.old) (word_at order file.old) × (highest_end (word_at order file.old) (first_word (word_at order file.old)) (word_at order file.old 10) < 2147483648) }
     ensures { file.new ≡ next_free_set order file.old }
 {
     let n = read_word(order, file, 10) as usize;
-    let end = highest_end(file, order);
+    let slots = GridSlots { file, order };
+    let end = slots.highest_end();
     write_number(order, 4, file, 4 * (11 + n), end as u32);
 }
 
@@ -57,18 +58,18 @@ pub fn delete_in(file: &mut [u8], order: Order, number: u32, size: usize) -> Res
     delete_verdict(file, order, number, size)?;
     write_number(order, 4, file, 4 * (10 + number as usize), EMPTY_SLOT);
     set_next_free(file, order);
-    Ok(survey_free(file, order).count)
+    let accepted = AcceptedFile { file, order };
+    Ok(accepted.survey_free().count)
 }
 
-// The lowest-numbered empty slot, counted from 0; n where there is none.
+// The lowest-numbered empty slot of an accepted file, counted from 0; n where there is none.
 #[tactic(auto, unfolding(grid_update_rules::specs::Updates::lowest_empty))]
-fn lowest_empty(file: &[u8], order: Order) -> usize
-    requires { GridAccepted order file.now }
-    ensures { result ≡ lowest_empty (word_at order file.now) }
+fn lowest_empty(accepted: AcceptedFile) -> usize
+    ensures { result ≡ lowest_empty (word_at accepted.entry.order accepted.entry.file.now) }
 {
-    let n = read_word(order, file, 10) as usize;
+    let n = read_word(accepted.order, accepted.file, 10) as usize;
     for k in 0..n {
-        if read_word(order, file, 11 + k) == EMPTY_SLOT {
+        if read_word(accepted.order, accepted.file, 11 + k) == EMPTY_SLOT {
             return k;
         }
     }
@@ -91,8 +92,9 @@ fn add_verdict(
     file_verdict(file, order)?;
     let n = read_word(order, file, 10) as usize;
     let points = rows as usize * columns as usize;
-    let slot = lowest_empty(file, order);
-    let room = has_room(file, order, 64 + points);
+    let accepted = AcceptedFile { file, order };
+    let slot = lowest_empty(accepted);
+    let room = accepted.has_room(64 + points);
     check(n + 1 <= size, Refusal::ShortOutput)?;
     check(within(1, 65535, rows), Refusal::CountOutOfBounds(0))?;
     check(within(1, 65535, columns), Refusal::CountOutOfBounds(0))?;
@@ -116,8 +118,9 @@ pub fn plan_add(
     ensures { says result ≡ add_plan order file.now headers rows columns values size }
 {
     add_verdict(file, order, headers, rows, columns, values, size)?;
-    let slot = lowest_empty(file, order);
-    let stretches = survey_free(file, order);
+    let accepted = AcceptedFile { file, order };
+    let slot = lowest_empty(accepted);
+    let stretches = accepted.survey_free();
     Ok(AddPlan {
         number: slot as u32 + 1,
         need: 64 + rows as usize * columns as usize,
@@ -159,10 +162,10 @@ fn write_grid(
     write_values(file, order, 4 * at + 256, values);
 }
 
-// Carries out the plan of an addition, where `found` was found among the free stretches before the last. The caller must make sure that the plan is the one for
+// Carries out the plan of an addition that its rules allow, where `found` was found among the free stretches before the last. The caller must make sure that the plan is the one for
 // this file and a table of `size` pairs, and that what was found, or else the last stretch, begins at the lowest address at which the grid has room.
 #[tactic(auto, using(grid_update_rules::proofs::Plans::slot_inside, grid_update_rules::proofs::Plans::may_set_next, grid_update_rules::proofs::Plans::may_survey, grid_update_rules::proofs::Plans::carried_out))]
-pub fn add_at(
+fn carry_out(
     file: &mut [u8],
     order: Order,
     header: &[u8],
@@ -173,16 +176,41 @@ pub fn add_at(
     plan: AddPlan,
     found: Extent,
 ) -> Added
-    requires { Ready order file.old header.now rows columns values.now size plan found }
+    requires { ReadyPlan order file.old header.now rows columns values.now size plan found }
     ensures { (addition_says (Ok result), file.new) ≡ add_step order file.old header.now rows columns values.now size }
 {
     let at = first_fitting(plan.need, found, plan.last).start;
     write_grid(file, order, header, rows, columns, values, at);
     write_number(order, 4, file, 4 * (10 + plan.number as usize), at as u32);
     set_next_free(file, order);
+    let accepted = AcceptedFile { file, order };
     Added {
         number: plan.number,
         address: at,
-        stretches: survey_free(file, order).count,
+        stretches: accepted.survey_free().count,
     }
+}
+
+// Carries out the plan of an addition, where `found` was found among the free stretches before the last. The caller must make sure that the plan is the one for
+// this file and a table of `size` pairs, and that what was found, or else the last stretch, begins at the lowest address at which the grid has room. Nothing is
+// written where the plan is refused.
+#[tactic(auto, unfolding(grid_update_rules::specs::Steps::add_step))]
+pub fn add_at(
+    file: &mut [u8],
+    order: Order,
+    header: &[u8],
+    rows: u32,
+    columns: u32,
+    values: &[i32],
+    size: usize,
+    plan: Result<AddPlan, Refusal>,
+    found: Extent,
+) -> Result<Added, Refusal>
+    requires { Ready order file.old header.now rows columns values.now size plan found }
+    ensures { (addition_says result, file.new) ≡ add_step order file.old header.now rows columns values.now size }
+{
+    let plan = plan?;
+    Ok(carry_out(
+        file, order, header, rows, columns, values, size, plan, found,
+    ))
 }

@@ -10,7 +10,7 @@ ghost use Rattle.grid_update_rules.specs.Updates.{tell_stretches, delete_grid, a
 use endian_rules::Order;
 use endian_steps::read_word;
 use extent_rules::Extent;
-use extent_steps::survey_free;
+use extent_steps::AcceptedFile;
 use extent_table_steps::{fill, search};
 use grid::file_verdict;
 use grid_update_rules::Added;
@@ -26,7 +26,8 @@ fn count_stretches(file: &[u8], order: Order, size: usize) -> Result<usize, Refu
     file_verdict(file, order)?;
     let n = read_word(order, file, 10) as usize;
     check(n + 1 <= size, Refusal::ShortOutput)?;
-    Ok(survey_free(file, order).count)
+    let accepted = AcceptedFile { file, order };
+    Ok(accepted.survey_free().count)
 }
 
 // Answers how many free stretches the file has, which then stand in the first places of the table, in address order; places past them stay.
@@ -95,9 +96,9 @@ pub fn add(
         columns,
         values,
         table.len(),
-        plan,
+        Ok(plan),
         found,
-    );
+    )?;
     fill(table, file, order, added.stretches);
     Ok(added)
 }

@@ -19,7 +19,8 @@ pub const PLACES: usize = 1025;
 pub const SHORT_PLACES: usize = 4;
 
 // What a call answers, and its table of N places. After a call that succeeds the free stretches of the file stand in the first places, as many as the answer
-// tells, and the places past them are as they were before the call; after a refusal all are.
+// tells, and the places past them are as they were before the call; after a refusal all are. The table is handed back with a refusal too, so it stands beside the
+// answer and not in it.
 #[derive(Clone, Copy, Debug, PartialEq, Eq)]
 pub struct WithTable<Value, const N: usize> {
     pub answer: Result<Value, Refusal>,

@@ -19,6 +19,8 @@ pub enum Layout {
     Md(MdLayout),
 }
 
+// Three conversions and not one generic one: a variant of `Layout` cannot be a parameter.
+
 // A layout as an AREA layout. Refused with 7 where it is of another kind.
 impl TryFrom<Layout> for AreaLayout {
     type Error = Refusal;

@@ -105,3 +105,14 @@ bytes_are t l (b ∷ m) x h =
 -- the text that at most 512 bytes make
 pub text_is : (l : List ℕ) → length l ≤ 512 → TextIs (append_bytes empty_text l) l
 text_is l h = bytes_are empty_text [] l empty_is (omega arith)
+
+-- the first n elements of a list, each by its index
+list_of-take : (l : List ℕ) (n d : ℕ) → n ≤ length l → list_of (λ i. get_or l i d) n ≡ take n l
+unfolding list_of
+list_of-take l zero d h = refl
+list_of-take l (suc n) d h = ap (λ (m : List ℕ). m ++ get_or l n d ∷ []) (list_of-take l n d (omega arith)) ∙ sym (take-suc l n d h)
+
+-- the bytes of a text, each by its index
+pub text_list_of : {t : Text} {l : List ℕ} → TextIs t l → length l ≤ 512 → list_of (λ i. get_or t.bytes i 0) t.count ≡ l
+text_list_of {t} {l} x h =
+    list_of-take t.bytes t.count 0 (omega (arith, x.count, x.room)) ∙ ap (λ (n : ℕ). take n t.bytes) x.count ∙ x.front

@@ -13,6 +13,7 @@ pub struct Entry {
 }
 
 // The blocks of a file, at most six of them: the first `count` entries. The others are blank: the directory, at 0, with no bytes.
+// An array with a count and no `Vec`: the library has no heap, and its memory is fixed.
 #[derive(Clone, Copy, Debug, PartialEq, Eq)]
 pub struct BlockList {
     pub count: usize,
@@ -27,6 +28,7 @@ pub struct Listing {
 }
 
 // A text that bytes are appended to: its first `count` bytes. There is room for 512, and no listing has more than 439.
+// An array with a count and no `String`: the library has no heap, and its memory is fixed.
 #[derive(Clone, Copy, Debug, PartialEq, Eq)]
 pub struct Text {
     pub count: usize,

@@ -1,9 +1,19 @@
 -- Laws of choices by a test.
 -- Assumes nothing.
 use mathlib.Core.Path.{◌≡◌, refl}
-use mathlib.Core.Bool.{Bool, true, false, false≢true}
+use mathlib.Core.Bool.{Bool, true, false, ◌&&◌, false≢true}
 use mathlib.Core.Logic.{◌⊎◌, inl, inr}
 use Rattle.lists.specs.Choices.{pick, both, either}
+
+-- two tests, as code makes them and as tables write them
+pub and_both : (s t : Bool) → s && t ≡ both s t
+and_both true t = refl
+and_both false t = refl
+
+-- a test that is the last of several
+pub both_last : (s : Bool) → both s true ≡ s
+both_last true = refl
+both_last false = refl
 
 -- what it says that two tests both hold
 pub both_true : (a b : Bool) → both a b ≡ true → (a ≡ true) × (b ≡ true)

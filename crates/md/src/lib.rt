@@ -155,6 +155,7 @@ pub fn open(file: &[u8], order: Order) -> Result<MdLayout, Refusal>
 }
 
 // Whether two MD layouts are the same in every field.
+#[tactic(auto, using(lists::proofs::Choices::and_both, lists::proofs::Choices::both_last, endian_rules::proofs::Orders::order_numbers), unfolding(md_rules::specs::Opening::same_md, refusal_rules::specs::Tests::same_numbers))]
 pub fn same_md(a: MdLayout, b: MdLayout) -> bool
     ensures { result ≡ same_md a b }
 {

@@ -1,19 +1,58 @@
--- The names of keys: the first of the positions whose key has a name.
+-- The names of keys: four bytes compared one by one, and the first of the positions whose key has a name.
 -- Assumes nothing.
-use mathlib.Core.Path.{◌≡◌, refl, sym, ap, ◌∙◌}
+use mathlib.Core.Path.{◌≡◌, refl, sym, ap, ap₂, ◌∙◌}
 use mathlib.Core.Bool.{Bool, true, false}
 use mathlib.Core.Logic.{◌⊎◌, inl, inr, ⊎_elim}
 use mathlib.Core.List.{List, [], ◌∷◌, ◌++◌}
 use Prim.Native.Nat.{ℕ, zero, suc, ◌+◌, ◌≤◌, ◌<◌}
 use native.Mathlib.Nat.{eq-or-lt_of_le}
 use native.Mathlib.Omega.{arith}
-use lib.ListN.{length}
+use lib.Dec.{eqb}
+use lib.ListN.{length, get_or}
 use borrow.Author.Tests.{eq-eqb, ne_eqb}
-use Rattle.lists.specs.Lists.{list_of, keep}
+use Rattle.lists.specs.Choices.{both}
+use Rattle.lists.specs.Lists.{part, list_of, keep}
+use Rattle.lists.proofs.Parts.{length-part, get_or-part}
 use Rattle.lists.proofs.Kept.{keep-append}
 use Rattle.refusal_rules.specs.Answers.{gives, refuses}
+use Rattle.refusal_rules.specs.Tests.{same_numbers}
 use Rattle.md_rules.specs.declared.MdLayout.{MdLayout}
 use Rattle.md_part_rules.specs.Keys.{is_named, positions, first_position, key_in}
+
+-- ---- four bytes
+
+-- a list of four is its four elements
+four : (l : List ℕ) → length l ≡ 4 → l ≡ get_or l 0 0 ∷ get_or l 1 0 ∷ get_or l 2 0 ∷ get_or l 3 0 ∷ []
+four [] e = let z : ⊥ = omega arith in absurd z
+four (a ∷ []) e = let z : ⊥ = omega arith in absurd z
+four (a ∷ b ∷ []) e = let z : ⊥ = omega arith in absurd z
+four (a ∷ b ∷ c ∷ []) e = let z : ⊥ = omega arith in absurd z
+four (a ∷ b ∷ c ∷ d ∷ []) e = refl
+four (a ∷ b ∷ c ∷ d ∷ x ∷ l) e = let z : ⊥ = omega arith in absurd z
+
+-- a test that holds adds nothing
+both_true_right : (b : Bool) → both b true ≡ b
+both_true_right true = refl
+both_true_right false = refl
+
+-- four bytes of a file are a name where each of them is
+pub four_same : (f name : List ℕ) (at : ℕ) → at + 4 ≤ length f → length name ≡ 4
+    → both (eqb (get_or f at 0) (get_or name 0 0))
+    (both (eqb (get_or f (at + 1) 0) (get_or name 1 0)) (both (eqb (get_or f (at + 2) 0) (get_or name 2 0)) (eqb (get_or f (at + 3) 0) (get_or name 3 0)))) ≡ same_numbers (part at 4 f) name
+unfolding same_numbers
+four_same f name at h e =
+    let start : at + 0 ≡ at = omega arith in
+    let byte : (i : ℕ) → i < 4 → get_or (part at 4 f) i 0 ≡ get_or f (at + i) 0 = λ i lt. get_or-part at 4 f i 0 lt in
+    let first : get_or (part at 4 f) 0 0 ≡ get_or f at 0 = byte 0 (omega arith) ∙ ap (λ (a : ℕ). get_or f a 0) start in
+    let bytes : part at 4 f ≡ get_or f at 0 ∷ get_or f (at + 1) 0 ∷ get_or f (at + 2) 0 ∷ get_or f (at + 3) 0 ∷ [] =
+    four (part at 4 f) (length-part at 4 f h)
+    ∙ (λ t. first t ∷ byte 1 (omega arith) t ∷ byte 2 (omega arith) t ∷ byte 3 (omega arith) t ∷ []) in
+    sym
+    (ap₂ same_numbers bytes (four name e)
+    ∙ (λ t.
+    both (eqb (get_or f at 0) (get_or name 0 0))
+    (both (eqb (get_or f (at + 1) 0) (get_or name 1 0))
+    (both (eqb (get_or f (at + 2) 0) (get_or name 2 0)) (both_true_right (eqb (get_or f (at + 3) 0) (get_or name 3 0)) t)))))
 
 -- ---- the first of the positions 1 to n that passes a test
 

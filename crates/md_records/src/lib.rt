@@ -27,49 +27,52 @@ fn record_verdict(l: MdLayout, row: u32, column: u32) -> Result<(), Refusal>
     check(within(1, l.columns, column), Refusal::NoSuch)
 }
 
-// Fills an output with the fields of the part of an accepted file that coordinates name; it has a place for each of them. The part may have none. An accepted
-// file has the part, so its start is not refused.
-fn fill_part(file: &[u8], l: MdLayout, row: u32, column: u32, out: &mut [i32])
-    requires { MdOf l.order file.now l × ((row ≤ l.rows) × ((column ≤ l.columns) × (length out.old ≡ fields_of l row column))) }
-    ensures { out.new ≡ part_fields file.now l row column }
-{
-    if let Ok(word) = part_start(l, row, column) {
-        fill_words(l.order, file, 4 * word, 4, out);
-    }
+// An accepted MD file with the layout that opening it gives.
+#[derive(Clone, Copy)]
+struct OpenedFile<'a> {
+    file: &'a [u8],
+    layout: MdLayout,
+    ghost opened: { MdOf layout.order file.now layout },
 }
 
-// Fills the first places of an output with a record of an accepted file: row header, column header and data.
-fn fill_record(file: &[u8], l: MdLayout, row: u32, column: u32, out: &mut [i32])
-    requires { MdOf l.order file.now l × (IsRecord l row column × (l.keys ≤ length out.old)) }
-    ensures { out.new ≡ over (record_fields file.now l row column) out.old }
-{
-    let row_end = l.row_keys as usize;
-    let column_end = row_end + l.column_keys as usize;
-    let data_end = column_end + l.data_keys as usize;
-    fill_part(file, l, row, 0, &mut out[..row_end]);
-    fill_part(file, l, 0, column, &mut out[row_end..column_end]);
-    fill_part(file, l, row, column, &mut out[column_end..data_end]);
-}
-
-// Copies a record of an accepted file. Refused with 7 where there is no such record, then with 10 where the output is too short.
-#[tactic(auto, unfolding(md_part_rules::specs::Records::record_in))]
-fn copy_of(
-    file: &[u8],
-    l: MdLayout,
-    row: u32,
-    column: u32,
-    out: &mut [i32],
-) -> Result<usize, Refusal>
-    requires { MdOf l.order file.now l }
-    ensures { (says result, out.new) ≡ copied (record_in file.now l row column) out.old }
-{
-    let keys = l.keys as usize;
-    record_verdict(l, row, column)?;
-    if out.len() < keys {
-        return Err(Refusal::ShortOutput);
+impl<'a> OpenedFile<'a> {
+    // Fills an output with the fields of the part of the file that coordinates name; it has a place for each of them. The part may have none. An accepted file has
+    // the part, so its start is not refused.
+    fn fill_part(&self, row: u32, column: u32, out: &mut [i32])
+        requires { (row ≤ self.now.layout.rows) × ((column ≤ self.now.layout.columns) × (length out.old ≡ fields_of self.now.layout row column)) }
+        ensures { out.new ≡ part_fields self.now.file.now self.now.layout row column }
+    {
+        if let Ok(word) = part_start(self.layout, row, column) {
+            fill_words(self.layout.order, self.file, 4 * word, 4, out);
+        }
     }
-    fill_record(file, l, row, column, out);
-    Ok(keys)
+
+    // Fills the first places of an output with a record: row header, column header and data.
+    fn fill_record(&self, row: u32, column: u32, out: &mut [i32])
+        requires { IsRecord self.now.layout row column × (self.now.layout.keys ≤ length out.old) }
+        ensures { out.new ≡ over (record_fields self.now.file.now self.now.layout row column) out.old }
+    {
+        let row_end = self.layout.row_keys as usize;
+        let column_end = row_end + self.layout.column_keys as usize;
+        let data_end = column_end + self.layout.data_keys as usize;
+        self.fill_part(row, 0, &mut out[..row_end]);
+        self.fill_part(0, column, &mut out[row_end..column_end]);
+        self.fill_part(row, column, &mut out[column_end..data_end]);
+    }
+
+    // Copies a record. Refused with 7 where there is no such record, then with 10 where the output is too short.
+    #[tactic(auto, unfolding(md_part_rules::specs::Records::record_in))]
+    fn copy(&self, row: u32, column: u32, out: &mut [i32]) -> Result<usize, Refusal>
+        ensures { (says result, out.new) ≡ copied (record_in self.now.file.now self.now.layout row column) out.old }
+    {
+        let keys = self.layout.keys as usize;
+        record_verdict(self.layout, row, column)?;
+        if out.len() < keys {
+            return Err(Refusal::ShortOutput);
+        }
+        self.fill_record(row, column, out);
+        Ok(keys)
+    }
 }
 
 // Copies a complete record, that of a row and a column, both counted from 1, of an MD file into the first places of a lent output of signed words: its row
@@ -84,6 +87,6 @@ pub fn copy_record(
 ) -> Result<usize, Refusal>
     ensures { (says result, out.new) ≡ copy_record file.now layout row column out.old }
 {
-    let l = md_of(file, layout)?;
-    copy_of(file, l, row, column, out)
+    let layout = md_of(file, layout)?;
+    OpenedFile { file, layout }.copy(row, column, out)
 }

@@ -39,7 +39,8 @@ pub fn or(a: bool, b: bool) -> bool
     a || b
 }
 
-// Whether two numbers are equal and a test holds, which has been made when it is called.
+// Whether two numbers are equal and a test holds, which has been made when it is called. It stays as a public call with a contract of its own, though layouts
+// are compared by `==`.
 pub fn equal_and(x: u32, y: u32, rest: bool) -> bool
     ensures { result ≡ both (eqb x y) rest }
 {

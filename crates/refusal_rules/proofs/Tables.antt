@@ -166,7 +166,7 @@ unfolding chained first_fault
 chained-first v [] = sym (first_pass v)
 chained-first v (r ∷ rs) = chained-first (first v (judge r)) rs ∙ first_assoc v (judge r) (first_fault rs)
 
--- what a chain of calls of `check` gives is what the table says, after a verdict
+-- what rules give that are applied one after another is what the table says, after a verdict
 pub by_chain : (v : Verdict) (rs : List Rule) {r : Verdict} → r ≡ chained v rs → r ≡ first v (first_fault rs)
 by_chain v rs e = e ∙ chained-first v rs
 

@@ -11,10 +11,11 @@ pub record Refused : Type 0 where
   pub number : ℕ
   pub place : ℕ
 
+-- a refusal, with number and place in the order in which a refusal is told
 abbrev pub at : ℕ → ℕ → Refused
 at number place = record { number = number; place = place }
 
--- document 01's table of refusals
+-- document 01's table of refusals, with the rows 12 to 14 of document 02, request 5
 abbrev pub numbered : Refusal → Refused
 numbered ShortFile = at 1 0
 numbered NoByteOrder = at 2 2
@@ -69,7 +70,7 @@ unfoldable pub tabled : List Rule → List (ℕ × ℕ)
 tabled [] = []
 tabled (r ∷ rs) = (r.number, r.place) ∷ tabled rs
 
--- the rules applied one after another to a verdict, as code applies them
+-- the rules applied one after another to a verdict
 unfoldable pub chained : Verdict → List Rule → Verdict
 chained v [] = v
 chained v (r ∷ rs) = chained (first v (judge r)) rs

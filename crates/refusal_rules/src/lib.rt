@@ -7,7 +7,7 @@ ghost use Rattle.refusal_rules.specs.Rules.{numbered};
 use std::error::Error;
 use std::fmt;
 
-// Why a call refuses: a variant for each row of document 01's table of refusals. "Refusal" is its term. A variant holds the place
+// Why a call refuses: a variant for each row of document 01's table of refusals, with those of document 02, request 5. "Refusal" is its term. A variant holds the place
 // where the row gives one that depends on the file, the number of a word.
 #[derive(Clone, Copy, Debug, PartialEq, Eq)]
 pub enum Refusal {

@@ -15,11 +15,9 @@ use Rattle.extent_table_steps.proofs.fill.Goals as goal
 pub run_after-e-requires : goal.run_after-e-requires
 run_after-e-requires c =
     let a = c.args in
-    let accepted : GridAccepted a.order a.file.now = c.requires.1 (omega (arith, c.loop-place-test.true, length-take a.count a.table.now)) in (
-      accepted,
-      subst (λ (e : Extent). extent_end e ≤ length a.file.now / 4) (sym c.loop-place.invariant.0)
-          (run_inside a.order a.file.now accepted c.loop-place.place-index),
-    )
+    let accepted : GridAccepted a.order a.file.now = c.requires.1 (omega (arith, c.loop-place-test.true, length-take a.count a.table.now)) in
+    subst (λ (e : Extent). extent_end e ≤ length a.file.now / 4) (sym c.loop-place.invariant.0)
+    (run_inside a.order a.file.now accepted c.loop-place.place-index)
 
 pub loop-place-preserved : goal.loop-place-preserved
 unfolding nth_run

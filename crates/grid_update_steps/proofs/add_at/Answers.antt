@@ -1,14 +1,13 @@
--- `grid_update_steps::add_at` meets its contract: the grid has room where it is written, at an address of 32 bits.
+-- `grid_update_steps::add_at` meets its contract: a plan that is refused leaves the file.
 -- Assumes nothing.
-use Rattle.grid_update_rules.proofs.Plans.{may_write, address_small}
+use mathlib.Core.Path.{sym, ap, ◌∙◌}
+use Rattle.std.proofs.lemmas.Result.{err_from_is_err_and}
+use Rattle.refusal_rules.specs.Answers.{says}
+use Rattle.grid_update_rules.proofs.Plans.{refused_step}
 use Rattle.grid_update_steps.proofs.add_at.Goals as goal
 
-pub write_grid-requires : goal.write_grid-requires
-write_grid-requires c =
+pub returns-in_err-plan : goal.returns-in_err-plan
+returns-in_err-plan c =
     let a = c.args in
-    may_write a.order a.file.now a.header.now a.rows a.columns a.values.now a.size a.plan a.found c.requires c.first_fitting-at.result c.first_fitting-at.ensures
-
-pub overflow_cast-at : goal.overflow_cast-at
-overflow_cast-at c =
-    let a = c.args in
-    address_small a.order a.file.now a.header.now a.rows a.columns a.values.now a.size a.plan a.found c.requires c.first_fitting-at.result c.first_fitting-at.ensures
+    let p = err_from_is_err_and c.from_residual.result c.from_residual.ensures.1 in
+    rw (p.1, p.2) (refused_step a.order a.file.now a.header.now a.rows a.columns a.values.now a.size _ (ap says (sym c.in_err-plan.was) ∙ c.requires.planned))

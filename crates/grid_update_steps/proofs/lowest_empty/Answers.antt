@@ -21,18 +21,18 @@ found w k most before here =
     ))
 
 pub read_word-n-requires : goal.read_word-n-requires
-read_word-n-requires c = omega (arith, (accepted_slots c.args.order c.args.file.now c.requires).room)
+read_word-n-requires c = omega (arith, (accepted_slots c.args.accepted.order c.args.accepted.file.now c.args.accepted.accepted).room)
 
 pub read_word-requires : goal.read_word-requires
-read_word-requires c = omega (arith, c.loop-k-test.true, c.read_word-n.ensures, (accepted_slots c.args.order c.args.file.now c.requires).room)
+read_word-requires c = omega (arith, c.loop-k-test.true, c.read_word-n.ensures, (accepted_slots c.args.accepted.order c.args.accepted.file.now c.args.accepted.accepted).room)
 
 pub returns-then-read_word : goal.returns-then-read_word
 returns-then-read_word c =
-    let w : ℕ → ℕ = word_at c.args.order c.args.file.now in
+    let w : ℕ → ℕ = word_at c.args.accepted.order c.args.accepted.file.now in
     let here : is_empty_slot w c.loop-k.k ≡ true = eq-eqb (w (11 + c.loop-k.k)) empty_slot (sym c.read_word.ensures ∙ c.if-read_word.true) in
     found w c.loop-k.k (omega (arith, c.loop-k-test.true, c.read_word-n.ensures)) c.loop-k.invariant (λ l. here)
 
 pub returns : goal.returns
 returns c =
-    let w : ℕ → ℕ = word_at c.args.order c.args.file.now in
+    let w : ℕ → ℕ = word_at c.args.accepted.order c.args.accepted.file.now in
     c.read_word-n.ensures ∙ found w (w 10) (omega arith) (λ q l. c.loop-k.invariant q (omega (arith, l, c.loop-k-test.false, c.read_word-n.ensures))) (λ l. let z : ⊥ = omega (arith, l) in absurd z)

@@ -8,4 +8,4 @@ use Rattle.grid_rules.specs.Rules.{is_empty_slot}
 use Rattle.grid_update_steps.proofs.lowest_empty.Given as goal
 
 abbrev pub invariant-loop-k : goal.invariant-loop-k
-invariant-loop-k l = (q : ℕ) → q < l.k → is_empty_slot (word_at l.order l.file) q ≡ false
+invariant-loop-k l = (q : ℕ) → q < l.k → is_empty_slot (word_at l.accepted.order l.accepted.file.now) q ≡ false

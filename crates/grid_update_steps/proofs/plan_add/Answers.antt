@@ -7,15 +7,10 @@ use Rattle.extent_rules.specs.declared.Survey.{Survey}
 use Rattle.grid_update_rules.proofs.Plans.{plan_accepted, slot_small, pass_some, plan_pass}
 use Rattle.grid_update_steps.proofs.plan_add.Goals as goal
 
-pub lowest_empty-slot-requires : goal.lowest_empty-slot-requires
-lowest_empty-slot-requires c =
+pub invariant_of-accepted : goal.invariant_of-accepted
+invariant_of-accepted c =
     let a = c.args in
-    plan_accepted a.order a.file.now a.headers a.rows a.columns a.values a.size (sym c.in_ok-add_verdict.ensures)
-
-pub survey_free-stretches-requires : goal.survey_free-stretches-requires
-survey_free-stretches-requires c =
-    let a = c.args in
-    plan_accepted a.order a.file.now a.headers a.rows a.columns a.values a.size (sym c.in_ok-add_verdict.ensures)
+    record { accepted = plan_accepted a.order a.file.now a.headers a.rows a.columns a.values a.size (sym c.in_ok-add_verdict.ensures) }
 
 pub overflow_cast-result : goal.overflow_cast-result
 overflow_cast-result c =

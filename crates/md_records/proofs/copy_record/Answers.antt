@@ -5,5 +5,5 @@ use Rattle.layout_rules.proofs.OneKind.{md_known}
 use Rattle.md_records.proofs.copy_record.Goals as goal
 use Rattle.refusal_rules.specs.Answers.{says}
 
-pub copy_of-requires : goal.copy_of-requires
-copy_of-requires c = md_known _ _ _ (sym c.md_of.ensures ∙ ap says c.in_ok-l.was)
+pub invariant_of-copy : goal.invariant_of-copy
+invariant_of-copy c = record { opened = md_known _ _ _ (sym c.md_of.ensures ∙ ap says c.in_ok-layout.was) }
