@@ -11,7 +11,6 @@ pub fn fill_singly<T: Copy, F: Fn(usize) -> T>(read: F, at: usize, step: usize, 
     ensures { (value : ℕ → T) → AtEach (Reads (F.post read) value) at step (length out.old) → out.new ≡ list_of (λ i. value (at + i * step)) (length out.old) }
 {
     let n = out.len();
-    // A counter: with `for` and `iter_mut` a number of one byte takes more instructions.
     let mut i = 0;
     while i < n {
         out[i] = read(at + i * step);
