@@ -10,11 +10,8 @@ pub fn fill_singly<T: Copy, F: Fn(usize) -> T>(read: F, at: usize, step: usize, 
     requires { AtEach (Readable (F.pre read)) at step (length out.old) }
     ensures { (value : ℕ → T) → AtEach (Reads (F.post read) value) at step (length out.old) → out.new ≡ list_of (λ i. value (at + i * step)) (length out.old) }
 {
-    let n = out.len();
-    let mut i = 0;
-    while i < n {
-        out[i] = read(at + i * step);
-        i += 1;
+    for (i, place) in out.iter_mut().enumerate() {
+        *place = read(at + i * step);
     }
 }
 
