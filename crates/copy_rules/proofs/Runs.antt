@@ -1,8 +1,8 @@
 -- Laws of a copy of elements at equal distances, whatever is read at a place: what a turn leaves is the same for every width, order and type.
 -- Assumes nothing.
-use mathlib.Core.Path.{◌≡◌, refl, sym, ap, ◌∙◌}
+use mathlib.Core.Path.{◌≡◌, refl, sym, ap, subst, ◌∙◌}
 use mathlib.Core.List.{List, ◌++◌}
-use Prim.Native.Nat.{ℕ, ◌+◌, ◌-◌, ◌*◌, ◌^◌, ◌≤◌, ◌<◌, zero-le}
+use Prim.Native.Nat.{ℕ, zero, suc, ◌+◌, ◌-◌, ◌*◌, ◌^◌, ◌≤◌, ◌<◌, zero-le}
 use native.Mathlib.Nat.{add-mul, zero-mul}
 use native.Mathlib.Omega.{arith}
 use lib.ListN.{length, set, take, drop, length-take, length-drop}
@@ -49,6 +49,27 @@ module _ {A : Type 0} {g : ℕ → A} {at step i : ℕ} {out now : List A} (x : 
 further : (at step i j : ℕ) → at + i * step + j * step ≡ at + (i + j) * step
 further at step i j = omega (arith, add-mul i j step)
 
+-- what holds of each of n bytes at equal distances holds of m of them from byte i on
+pub further_holds : (holds : ℕ → Type 0) (at step n i m : ℕ) → ((j : ℕ) → j < n → holds (at + j * step)) → i + m ≤ n
+    → (j : ℕ) → j < m → holds (at + i * step + j * step)
+further_holds holds at step n i m each h j lt = subst holds (sym (further at step i j)) (each (i + j) (omega (arith, h, lt)))
+
+-- so it holds of the first, and of the second
+pub holds_first : (holds : ℕ → Type 0) (at step : ℕ) → holds (at + 0 * step) → holds at
+holds_first holds at step h = let e : at + 0 * step ≡ at = omega arith in subst holds e h
+
+pub holds_second : (holds : ℕ → Type 0) (at step : ℕ) → holds (at + 1 * step) → holds (at + step)
+holds_second holds at step h = let e : at + 1 * step ≡ at + step = omega arith in subst holds e h
+
+-- where each of n bytes at equal distances has a number below 2 ^ 63, that of the byte behind 4·k of them is one of 64 bits, though no element may stand there
+pub byte_behind : (at step n k : ℕ) → at < 2 ^ 64 → ((i : ℕ) → i < n → at + i * step < 2 ^ 63) → 4 * k ≤ n → at + 4 * k * step < 2 ^ 64
+byte_behind at step n zero small each h = omega (arith, small)
+byte_behind at step n (suc k) small each h =
+    let last : at + (4 * k + 3) * step < 2 ^ 63 = each (4 * k + 3) (omega (arith, h)) in
+    let second : at + 1 * step < 2 ^ 63 = each 1 (omega (arith, h)) in
+    let e : 4 * suc k ≡ 4 * k + 3 + 1 = omega arith in
+    rw e (omega (arith, last, second, add-mul (4 * k + 3) 1 step))
+
 -- where n elements of w bytes each are inside a file of `size` bytes, so are those from element i on
 pub inside_further : (at step w n size : ℕ) → ((i : ℕ) → i < n → at + i * step + w ≤ size)
     → (i j : ℕ) → i + j < n → at + i * step + j * step + w ≤ size
@@ -74,6 +95,16 @@ module _ {A : Type 0} {g : ℕ → A} {at step i : ℕ} {out now part : List A} 
   part_filled m k h p q =
       let r : part ≡ list_of (λ j. element g at step (i + j)) m = p ∙ (λ t. list_of (λ j. g (further at step i j t)) m) in
       filled h ((λ t. take i (x.same t) ++ (r t ++ drop k (drop i (x.same t)))) ∙ filled_part (element g at step) i m k out q)
+
+  -- m elements more, up to place `to`, which a call stored into the k places from place `from` on
+  pub up_to_filled : (from k m to : ℕ) → from ≡ i → k ≡ m → from + m ≡ to → to ≤ length out → part ≡ list_of (element g (at + from * step) step) m
+      → Filled g at step to out (take from now ++ (part ++ drop k (drop from now)))
+  up_to_filled from k m to begin size e room p =
+      let q : part ≡ list_of (element g (at + i * step) step) m = p ∙ ap (λ (f : ℕ). list_of (element g (at + f * step) step) m) begin in
+      let s : i + m ≡ to = sym (ap (λ (f : ℕ). f + m) begin) ∙ e in
+      let r : Filled g at step (i + m) out (take i now ++ (part ++ drop k (drop i now))) = part_filled m k (omega (arith, s, room)) q size in
+      subst (λ (f : ℕ). Filled g at step to out (take f now ++ (part ++ drop k (drop f now)))) (sym begin)
+      (subst (λ (j : ℕ). Filled g at step j out (take i now ++ (part ++ drop k (drop i now)))) s r)
 
   -- four elements more. The place behind them is a number of 64 bits, though no element may stand there.
   pub four_filled : (w size : ℕ) → ((j : ℕ) → j < length out → at + j * step + w ≤ size) → size < 2 ^ 63

@@ -4,79 +4,57 @@
 #![tactic(auto)]
 
 ghost use Rattle.std.specs.Prelude.{◌≡◌, ℕ, ◌+◌, ◌*◌, ◌≤◌, ◌<◌, length};
-ghost use Rattle.endian_rules.specs.declared.Order.TheVariants.{Big};
 ghost use Rattle.refusal_rules.specs.Answers.{gives, says};
 ghost use Rattle.copy_rules.specs.Runs.{numbers_at, copied};
 
 use copy_rules::Strided;
+use copy_steps::{fill_by_fours, fill_singly};
 use endian_rules::Order;
 use endian_steps::read_number;
 use refusal_rules::Refusal;
 
-// Fills an output with unsigned numbers, one a turn.
-fn numbers_singly(order: Order, width: usize, file: &[u8], at: usize, step: usize, out: &mut [u32])
-    requires { (width ≤ 4) × ((i : ℕ) → i < length out.old → at + i * step + width ≤ length file.now) }
-    ensures { out.new ≡ numbers_at order width file.now at step (length out.old) }
-{
-    let n = out.len();
-    // A counter: with `for` and `iter_mut` a number of four bytes in little order takes 6.0 instructions, and with this 3.75.
-    let mut i = 0;
-    while i < n {
-        let number = read_number(order, width, file, at + i * step);
-        out[i] = number;
-        i += 1;
-    }
-}
-
-// Fills an output of four places with unsigned numbers in big order.
-fn four_numbers(width: usize, file: &[u8], at: usize, step: usize, out: &mut [u32])
-    requires { (length out.old ≡ 4) × ((width ≤ 4) × (at + 3 * step + width ≤ length file.now)) }
-    ensures { out.new ≡ numbers_at Big width file.now at step 4 }
-{
-    let a = read_number(Order::Big, width, file, at);
-    let b = read_number(Order::Big, width, file, at + step);
-    let c = read_number(Order::Big, width, file, at + 2 * step);
-    let d = read_number(Order::Big, width, file, at + 3 * step);
-    out[0] = a;
-    out[1] = b;
-    out[2] = c;
-    out[3] = d;
-}
-
-// Fills an output with unsigned numbers in big order, four a turn, and the last ones singly.
-fn numbers_by_fours(width: usize, file: &[u8], at: usize, step: usize, out: &mut [u32])
-    requires { (width ≤ 4) × ((i : ℕ) → i < length out.old → at + i * step + width ≤ length file.now) }
-    ensures { out.new ≡ numbers_at Big width file.now at step (length out.old) }
-{
-    let n = out.len();
-    // A counter: it goes on by fours, and the last places begin where it ends.
-    let mut i = 0;
-    while i + 4 <= n {
-        let end = i + 4;
-        four_numbers(width, file, at + i * step, step, &mut out[i..end]);
-        i = end;
-    }
-    numbers_singly(Order::Big, width, file, at + i * step, step, &mut out[i..]);
-}
-
-// Fills an output with unsigned numbers. The width and the order are settled here, once for the whole output. The loops are called with literals, so that the
-// compiler makes one for each width, which reads a number as a whole and not byte by byte; big order, in which the bytes of a number are swapped, goes four
-// numbers a turn.
+// Fills an output with unsigned numbers. The width and the order are settled here, once for the whole output: the compiler makes a loop for each, which reads a
+// number as a whole and not byte by byte. Big order, in which the bytes of a number are swapped, goes four numbers a turn.
 fn fill_numbers(order: Order, width: usize, file: &[u8], at: usize, step: usize, out: &mut [u32])
     requires { (width ≤ 4) × ((i : ℕ) → i < length out.old → at + i * step + width ≤ length file.now) }
     ensures { out.new ≡ numbers_at order width file.now at step (length out.old) }
 {
     match width {
-        1 => numbers_singly(order, 1, file, at, step, out),
+        1 => fill_singly(move |byte| read_number(order, 1, file, byte), at, step, out),
         2 => match order {
-            Order::Big => numbers_by_fours(2, file, at, step, out),
-            Order::Little => numbers_singly(Order::Little, 2, file, at, step, out),
+            Order::Big => fill_by_fours(
+                move |byte| read_number(Order::Big, 2, file, byte),
+                at,
+                step,
+                out,
+            ),
+            Order::Little => fill_singly(
+                move |byte| read_number(Order::Little, 2, file, byte),
+                at,
+                step,
+                out,
+            ),
         },
         4 => match order {
-            Order::Big => numbers_by_fours(4, file, at, step, out),
-            Order::Little => numbers_singly(Order::Little, 4, file, at, step, out),
+            Order::Big => fill_by_fours(
+                move |byte| read_number(Order::Big, 4, file, byte),
+                at,
+                step,
+                out,
+            ),
+            Order::Little => fill_singly(
+                move |byte| read_number(Order::Little, 4, file, byte),
+                at,
+                step,
+                out,
+            ),
         },
-        _ => numbers_singly(order, width, file, at, step, out),
+        _ => fill_singly(
+            move |byte| read_number(order, width, file, byte),
+            at,
+            step,
+            out,
+        ),
     }
 }
 

@@ -1,6 +1,6 @@
 // The bytes of a file: made, set by words, stored into, compared with a copy; grids deleted from it and added to it, and its free stretches.
 use crate::answers::{Told, say, say_places, say_stretches};
-use crate::words::{Kind, Numbers, PlainCall, StoreCall, word_set};
+use crate::words::{Kind, Numbers, PlainCall, Rest, StoreCall};
 use area_rules::SlotOrBand;
 use calendar::{date_of, time_of};
 use endian::signed;
@@ -16,9 +16,6 @@ use layout_rules::Layout;
 use refusal_rules::Refusal;
 use std::io;
 use stores::{store_field, store_point, store_sample};
-
-// The most bytes of a file that is made.
-pub const LARGEST: usize = 16484;
 
 // Stores a number, with a layout, and writes what came back.
 pub fn store_value(
@@ -96,10 +93,8 @@ fn made_header() -> [u8; 300] {
 // Values from a first one on, each one more than the one before, modulo 2^32.
 fn values_from(first: u32) -> [i32; 100] {
     let mut values = [0i32; 100];
-    let mut n = first;
-    for value in &mut values {
-        *value = signed(n);
-        n = n.wrapping_add(1);
+    for (i, value) in values.iter_mut().enumerate() {
+        *value = signed(first.wrapping_add(i as u32));
     }
     values
 }
@@ -143,10 +138,19 @@ fn first_word(kind: Kind) -> u32 {
     }
 }
 
-// Sets the words of a line, each by its number and its value: `words K=N ..`. Words are counted from a first number on.
-fn set_words(file: &mut [u8], order: Order, first: u32, line: &str) {
-    for (k, n) in line.split(' ').filter_map(word_set) {
-        set_word(file, order, k.wrapping_sub(first), n);
+// Sets the words of a line, each by its number and its value, 0 where the line has none: `words K=N ..`. Words are counted from a first number on.
+fn set_words(file: &mut [u8], order: Order, first: u32, line: &[u8]) {
+    let mut rest = Rest { text: line };
+    // A count of turns and not as long as there are numbers: a line of one byte sets no word.
+    for _ in 0..line.len() / 2 {
+        if let Some(k) = rest.number() {
+            set_word(
+                file,
+                order,
+                k.wrapping_sub(first),
+                rest.number().unwrap_or(0),
+            );
+        }
     }
 }
 
@@ -173,7 +177,7 @@ pub fn change(
     order: Order,
     kind: Kind,
     call: PlainCall,
-    line: &str,
+    line: &[u8],
     n: Numbers,
 ) -> io::Result<()> {
     match call {
@@ -200,10 +204,15 @@ pub fn change(
     }
 }
 
+// Byte i of an AREA file that is made.
+fn area_byte(i: usize) -> u8 {
+    if i < 256 { 0 } else { (i % 256) as u8 }
+}
+
 // Makes an AREA file: its directory holds 0, and each byte i behind it i modulo 256.
 fn make_bytes(file: &mut [u8]) {
-    for (i, byte) in file.iter_mut().enumerate().skip(256) {
-        *byte = (i % 256) as u8;
+    for (i, byte) in file.iter_mut().enumerate() {
+        *byte = area_byte(i);
     }
 }
 
@@ -214,7 +223,7 @@ fn make_words(file: &mut [u8], order: Order) {
     }
 }
 
-// Makes a file of a kind, of bytes that hold 0.
+// Makes a file of a kind.
 pub fn make(file: &mut [u8], kind: Kind, order: Order) {
     match kind {
         Kind::Area => make_bytes(file),
@@ -222,17 +231,17 @@ pub fn make(file: &mut [u8], kind: Kind, order: Order) {
     }
 }
 
-// Puts the bytes of a copy back, as many as both have.
-pub fn restore(file: &mut [u8], copy: &[u8]) {
-    for (byte, copied) in file.iter_mut().zip(copy) {
+// Copies the first n bytes, or as many of them as both have.
+pub fn copy_bytes(n: usize, from: &[u8], to: &mut [u8]) {
+    for (byte, copied) in to.iter_mut().zip(from).take(n) {
         *byte = *copied;
     }
 }
 
-// Writes each byte of a file that differs from that of the copy, its index and its value, or that none does.
-pub fn compare(rt: &impl Print, file: &[u8], copy: &[u8]) -> io::Result<()> {
+// Writes each of the first n bytes of a file that differs from that of the copy, its index and its value, or that none does.
+pub fn compare(rt: &impl Print, n: usize, file: &[u8], copy: &[u8]) -> io::Result<()> {
     let mut same = true;
-    for (i, (byte, copied)) in file.iter().zip(copy).enumerate() {
+    for (i, (byte, copied)) in file.iter().zip(copy).take(n).enumerate() {
         if byte != copied {
             print!(rt; ", {i}= {byte}")?;
             same = false;

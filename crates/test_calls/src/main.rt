@@ -2,8 +2,8 @@
 // file `stdin`, has the worked files of document 01 and files like them: opened, cut, changed, read, stored into, with grids deleted and added, and with their free stretches told. What the program must
 // write, in the file `stdout`, was worked out from documents 01 and 02.
 //
-// The first line of a script lists the words that `words` has. Each line behind it is a word and numbers, which may be negative, with spaces between them. Any other line
-// is written as it is.
+// The first line of a script lists the words, in the order of their numbers, which the calls of `words` have. Each line behind it is a word and numbers, which may be
+// negative and may have anything but digits between them. Any other line is written as it is.
 #![tactic(auto)]
 
 mod answers;
@@ -13,100 +13,107 @@ mod words;
 
 use answers::say;
 use asks::ask;
-use changes::{LARGEST, change, compare, make, open_kind, restore, store_value};
+use changes::{change, compare, copy_bytes, make, open_kind, store_value};
 use endian_rules::Order;
 use layout_rules::Layout;
-use std::alloc::Global;
 use std::io;
 use std::io::Read;
 use words::{Call, Kind, call_of, numbers_in};
 
-// What a script is at: the file and its kind, the layout that opening a file last gave, and the copy that is kept.
+// The most bytes of a file. A file that is longer is not made, and calls on it are skipped.
+const LARGEST: usize = 16484;
+
+// What a script is at: the order and the kind of the file, its length and the space that it begins, the layout that opening a file last gave, and how many bytes are
+// kept in the copy. Arrays with a length and not Vec: a file that is made finds the bytes that the one before left in the space, and a copy those of the copy before.
 #[derive(Drop)]
 struct Subject {
+    order: Order,
     kind: Kind,
-    file: Vec<u8>,
+    length: usize,
+    space: [u8; LARGEST],
     layout: Option<Layout>,
-    copy: Vec<u8>,
+    copied: usize,
+    copy: [u8; LARGEST],
 }
 
 impl Subject {
-    // Makes a file of a kind and a length. One that would be longer than `LARGEST` bytes has none.
-    fn make(&mut self, kind: Kind, order: Order, length: usize) -> io::Result<()> {
-        self.kind = kind;
-        self.file.clear();
-        if length <= LARGEST {
-            self.file.resize(length, 0)?;
+    // Before the first line there is an AREA file of no bytes, and no layout.
+    fn new(order: Order) -> Subject {
+        Subject {
+            order,
+            kind: Kind::Area,
+            length: 0,
+            space: [0; LARGEST],
+            layout: None,
+            copied: 0,
+            copy: [0; LARGEST],
         }
-        make(&mut self.file, kind, order);
-        Ok(())
     }
 
-    // Opens the file, and keeps the layout where there is one.
-    fn open(&mut self, rt: &impl Print, order: Order, number: u32) -> io::Result<()> {
-        let opening = open_kind(&self.file, self.kind, order, number);
-        if let Ok(layout) = opening {
-            self.layout = Some(layout);
+    // Begins what a call says: a call that makes a file gives its kind and its length, and one that keeps a copy the length of the copy, even where the file is too long.
+    fn begin(&mut self, call: Call, length: usize) {
+        match call {
+            Call::Make(kind) => {
+                self.kind = kind;
+                self.length = length;
+            }
+            Call::Keep => self.copied = self.length,
+            _ => (),
         }
-        say(rt, opening)
     }
 
-    // Keeps a copy of the file.
-    fn keep(&mut self) -> io::Result<()> {
-        self.copy.clear();
-        self.copy.extend_from_slice(&self.file)?;
-        Ok(())
-    }
-
-    // Does what a line says, and writes what came back. A call that takes a layout does nothing before there is one.
-    fn act(&mut self, rt: &impl Print, order: Order, call: Call, line: &str) -> io::Result<()> {
+    // Does what a line says, and writes what came back. A call that takes a layout does nothing before there is one, and none does anything where the file is too long.
+    fn act(&mut self, rt: &impl Print, call: Call, line: &[u8]) -> io::Result<()> {
         let n = numbers_in(line);
+        self.begin(call, n.a as usize);
+        let Some(file) = self.space.get_mut(..self.length) else {
+            return Ok(());
+        };
         match call {
             Call::Read(read) => match self.layout {
-                Some(layout) => ask(rt, &self.file, layout, read, n),
+                Some(layout) => ask(rt, file, layout, read, n),
                 None => Ok(()),
             },
             Call::Store(store) => match self.layout {
-                Some(layout) => store_value(rt, &mut self.file, layout, store, n),
+                Some(layout) => store_value(rt, file, layout, store, n),
                 None => Ok(()),
             },
-            Call::Plain(plain) => change(rt, &mut self.file, order, self.kind, plain, line, n),
-            Call::Make(kind) => self.make(kind, order, n.a as usize),
-            Call::Open => self.open(rt, order, n.a),
-            Call::Keep => self.keep(),
-            Call::Restore => Ok(restore(&mut self.file, &self.copy)),
-            Call::Differences => compare(rt, &self.file, &self.copy),
+            Call::Plain(plain) => change(rt, file, self.order, self.kind, plain, line, n),
+            Call::Make(kind) => Ok(make(file, kind, self.order)),
+            Call::Open => {
+                let opening = open_kind(file, self.kind, self.order, n.a);
+                self.layout = opening.ok().or(self.layout);
+                say(rt, opening)
+            }
+            Call::Keep => Ok(copy_bytes(self.copied, file, &mut self.copy)),
+            Call::Restore => Ok(copy_bytes(self.copied, &self.copy, file)),
+            Call::Differences => compare(rt, self.copied, file, &self.copy),
         }
     }
 }
 
-// Runs the lines of a script with files in a byte order. Before the first line there is an AREA file of no bytes, and no layout.
-fn run(rt: &impl Print, alloc: Global, script: &str, order: Order) -> io::Result<()> {
-    let mut subject = Subject {
-        kind: Kind::Area,
-        file: Vec::new(alloc),
-        layout: None,
-        copy: Vec::new(alloc),
-    };
-    for line in script.lines() {
-        print!(rt; "{line}")?;
-        if let Ok(call) = call_of(line) {
-            subject.act(rt, order, call, line)?;
+// Runs the lines of a script with files in a byte order.
+fn run(rt: &impl Print, list: &[u8], script: &[u8], order: Order) -> io::Result<()> {
+    let mut subject = Subject::new(order);
+    for part in script.split_inclusive(|byte| *byte == b'\n') {
+        let line = part.strip_suffix(b"\n").unwrap_or(part);
+        rt.write_all(line)?;
+        if let Some(call) = call_of(line, list) {
+            subject.act(rt, call, line)?;
         }
         println!(rt)?;
     }
     Ok(())
 }
 
-// Reads a script of at most 32,768 bytes and runs it in both byte orders.
+// Reads a script of at most 32,768 bytes and runs it in both byte orders. The line feed behind the list of words ends the line that names the order.
 fn main(rt: HostRuntime) -> io::Result<()> {
-    let mut text = String::new(rt.alloc());
-    rt.reader().take(32768).read_to_string(&mut text)?;
-    if let Some((_, script)) = text.split_once('\n') {
-        println!(rt; "BIG ORDER")?;
-        run(&rt, rt.alloc(), script, Order::Big)?;
-        println!(rt; "LITTLE ORDER")?;
-        run(&rt, rt.alloc(), script, Order::Little)?;
-    }
-    Ok(())
+    let mut text = Vec::new(rt.alloc());
+    rt.reader().take(32768).read_to_end(&mut text)?;
+    let list = text.split(|byte| *byte == b'\n').next().unwrap_or(&[]);
+    let script = text.strip_prefix(list).unwrap_or(&[]);
+    print!(rt; "BIG ORDER")?;
+    run(&rt, list, script, Order::Big)?;
+    print!(rt; "LITTLE ORDER")?;
+    run(&rt, list, script, Order::Little)
 }

@@ -1,7 +1,5 @@
-// The words of a script, and the numbers of a line.
+// The words of a script, and the numbers of a line. Lines may hold any bytes.
 use area_rules::{Block, Region};
-use endian::unsigned;
-use std::str::FromStr;
 
 // A kind of file.
 #[derive(Clone, Copy, Debug, PartialEq, Eq)]
@@ -89,7 +87,7 @@ pub enum Call {
     Store(StoreCall),
     Plain(PlainCall),
     // `area LENGTH` makes an AREA file of a length in bytes, at most 16,484. Its directory holds 0, and each byte i behind it i modulo 256: a value shows where it
-    // was read. `grid LENGTH` and `md LENGTH` make a GRID file and an MD file likewise. Each word k holds k, and the bytes behind the last whole word hold 0.
+    // was read. `grid LENGTH` and `md LENGTH` make a GRID file and an MD file likewise. Each word k holds k, and the bytes behind the last whole word what they held.
     Make(Kind),
     // `open NUMBER` opens the file, where it is a GRID file the grid of a number.
     Open,
@@ -101,125 +99,101 @@ pub enum Call {
     Differences,
 }
 
-// A word that is no call.
-#[derive(Clone, Copy, Debug, PartialEq, Eq)]
-pub struct NoCall;
+// The calls, each at the number of its word.
+const CALLS: [Call; 44] = [
+    Call::Read(ReadCall::Sample),
+    Call::Read(ReadCall::BandSample),
+    Call::Read(ReadCall::Line),
+    Call::Read(ReadCall::BandLine),
+    Call::Read(ReadCall::BandSlot),
+    Call::Read(ReadCall::Block(Block::Dir)),
+    Call::Read(ReadCall::Block(Block::Nav)),
+    Call::Read(ReadCall::Block(Block::Cal)),
+    Call::Read(ReadCall::Block(Block::Aux)),
+    Call::Read(ReadCall::Block(Block::Data)),
+    Call::Read(ReadCall::Block(Block::Audit)),
+    Call::Read(ReadCall::Region(Region::Validity)),
+    Call::Read(ReadCall::Region(Region::Documentation)),
+    Call::Read(ReadCall::Region(Region::Calibration)),
+    Call::Read(ReadCall::Region(Region::BandList)),
+    Call::Read(ReadCall::Region(Region::Padding)),
+    Call::Read(ReadCall::Point),
+    Call::Read(ReadCall::Header),
+    Call::Read(ReadCall::Field),
+    Call::Read(ReadCall::Key),
+    Call::Read(ReadCall::ByColumns),
+    Call::Read(ReadCall::ByRows),
+    Call::Read(ReadCall::Record),
+    Call::Store(StoreCall::Sample),
+    Call::Store(StoreCall::Band),
+    Call::Store(StoreCall::Point),
+    Call::Store(StoreCall::Field),
+    Call::Plain(PlainCall::Delete),
+    Call::Plain(PlainCall::Add),
+    Call::Plain(PlainCall::AddShort),
+    Call::Plain(PlainCall::DeleteShort),
+    Call::Plain(PlainCall::Stretches),
+    Call::Plain(PlainCall::Word),
+    Call::Plain(PlainCall::Date),
+    Call::Plain(PlainCall::Time),
+    Call::Plain(PlainCall::Words),
+    Call::Plain(PlainCall::With),
+    Call::Make(Kind::Area),
+    Call::Make(Kind::Grid),
+    Call::Make(Kind::Md),
+    Call::Open,
+    Call::Keep,
+    Call::Restore,
+    Call::Differences,
+];
 
-impl FromStr for ReadCall {
-    type Err = NoCall;
+// Whether a line begins with a word, with a space or nothing behind it.
+fn begins(line: &[u8], word: &[u8]) -> bool {
+    match line.strip_prefix(word) {
+        Some(rest) => rest.is_empty() || rest.starts_with(b" "),
+        None => false,
+    }
+}
 
-    fn from_str(word: &str) -> Result<ReadCall, NoCall> {
-        match word {
-            "sample" => Ok(ReadCall::Sample),
-            "band-sample" => Ok(ReadCall::BandSample),
-            "line" => Ok(ReadCall::Line),
-            "band-line" => Ok(ReadCall::BandLine),
-            "band-slot" => Ok(ReadCall::BandSlot),
-            "point" => Ok(ReadCall::Point),
-            "header" => Ok(ReadCall::Header),
-            "field" => Ok(ReadCall::Field),
-            "key" => Ok(ReadCall::Key),
-            "by-columns" => Ok(ReadCall::ByColumns),
-            "by-rows" => Ok(ReadCall::ByRows),
-            "record" => Ok(ReadCall::Record),
-            _ => part_named(word),
+// The call of the word that a line begins with, in a list of words with a space behind each but the last: a word's number is its place in the list. A line that begins
+// with none of them has the number behind the last.
+pub fn call_of(line: &[u8], list: &[u8]) -> Option<Call> {
+    let mut calls = CALLS.iter();
+    for part in list.split_inclusive(|byte| *byte == b' ') {
+        let call = calls.next();
+        if begins(line, part.strip_suffix(b" ").unwrap_or(part)) {
+            return call.copied();
         }
     }
+    calls.next().copied()
 }
 
-// The call that reads the block or the region of a word.
-fn part_named(word: &str) -> Result<ReadCall, NoCall> {
-    match word {
-        "dir" => Ok(ReadCall::Block(Block::Dir)),
-        "nav" => Ok(ReadCall::Block(Block::Nav)),
-        "cal" => Ok(ReadCall::Block(Block::Cal)),
-        "aux" => Ok(ReadCall::Block(Block::Aux)),
-        "data" => Ok(ReadCall::Block(Block::Data)),
-        "audit" => Ok(ReadCall::Block(Block::Audit)),
-        "validity-code" => Ok(ReadCall::Region(Region::Validity)),
-        "documentation" => Ok(ReadCall::Region(Region::Documentation)),
-        "calibration" => Ok(ReadCall::Region(Region::Calibration)),
-        "band-list" => Ok(ReadCall::Region(Region::BandList)),
-        "padding" => Ok(ReadCall::Region(Region::Padding)),
-        _ => Err(NoCall),
-    }
+// What is left of a line, whose numbers are taken one after another.
+#[derive(Clone, Copy, Debug)]
+pub struct Rest<'a> {
+    pub text: &'a [u8],
 }
 
-impl FromStr for StoreCall {
-    type Err = NoCall;
-
-    fn from_str(word: &str) -> Result<StoreCall, NoCall> {
-        match word {
-            "store-sample" => Ok(StoreCall::Sample),
-            "store-band" => Ok(StoreCall::Band),
-            "store-point" => Ok(StoreCall::Point),
-            "store-field" => Ok(StoreCall::Field),
-            _ => Err(NoCall),
+impl<'a> Rest<'a> {
+    // Takes the next number, as a word in two's complement, cut to 32 bits. Numbers are runs of decimal digits, negative where a minus sign stands straight before them.
+    // Any other byte parts them.
+    pub fn number(&mut self) -> Option<u32> {
+        let start = self.text.iter().position(|byte| byte.is_ascii_digit())?;
+        let (before, from) = self.text.split_at_checked(start)?;
+        let end = from
+            .iter()
+            .position(|byte| !byte.is_ascii_digit())
+            .unwrap_or(from.len());
+        let (digits, rest) = from.split_at_checked(end)?;
+        self.text = rest;
+        let n = digits.iter().fold(0u32, |n, digit| {
+            n.wrapping_mul(10)
+                .wrapping_add(digit.wrapping_sub(b'0') as u32)
+        });
+        match before.last() {
+            Some(b'-') => Some(n.wrapping_neg()),
+            _ => Some(n),
         }
-    }
-}
-
-impl FromStr for PlainCall {
-    type Err = NoCall;
-
-    fn from_str(word: &str) -> Result<PlainCall, NoCall> {
-        match word {
-            "delete" => Ok(PlainCall::Delete),
-            "add" => Ok(PlainCall::Add),
-            "add-short" => Ok(PlainCall::AddShort),
-            "delete-short" => Ok(PlainCall::DeleteShort),
-            "stretches" => Ok(PlainCall::Stretches),
-            "word" => Ok(PlainCall::Word),
-            "date" => Ok(PlainCall::Date),
-            "time" => Ok(PlainCall::Time),
-            "words" => Ok(PlainCall::Words),
-            "with" => Ok(PlainCall::With),
-            _ => Err(NoCall),
-        }
-    }
-}
-
-impl FromStr for Call {
-    type Err = NoCall;
-
-    fn from_str(word: &str) -> Result<Call, NoCall> {
-        match word {
-            "area" => Ok(Call::Make(Kind::Area)),
-            "grid" => Ok(Call::Make(Kind::Grid)),
-            "md" => Ok(Call::Make(Kind::Md)),
-            "open" => Ok(Call::Open),
-            "keep" => Ok(Call::Keep),
-            "restore" => Ok(Call::Restore),
-            "differences" => Ok(Call::Differences),
-            _ => other_named(word),
-        }
-    }
-}
-
-// The call of a word that reads, stores or needs no layout.
-fn other_named(word: &str) -> Result<Call, NoCall> {
-    if let Ok(read) = word.parse() {
-        return Ok(Call::Read(read));
-    }
-    if let Ok(store) = word.parse() {
-        return Ok(Call::Store(store));
-    }
-    Ok(Call::Plain(word.parse()?))
-}
-
-// The call of the word that a line begins with.
-pub fn call_of(line: &str) -> Result<Call, NoCall> {
-    match line.split_once(' ') {
-        Some((word, _)) => word.parse(),
-        None => line.parse(),
-    }
-}
-
-// The number that a text is, as a word: an unsigned number of 32 bits, or a negative one in two's complement.
-pub fn number(text: &str) -> Option<u32> {
-    match text.parse::<u32>() {
-        Ok(n) => Some(n),
-        Err(_) => Some(unsigned(text.parse::<i32>().ok()?)),
     }
 }
 
@@ -233,19 +207,13 @@ pub struct Numbers {
     pub e: u32,
 }
 
-// The first five numbers of a line: those of its texts between spaces that are numbers.
-pub fn numbers_in(line: &str) -> Numbers {
-    let mut numbers = line.split(' ').filter_map(number);
-    let a = numbers.next().unwrap_or(0);
-    let b = numbers.next().unwrap_or(0);
-    let c = numbers.next().unwrap_or(0);
-    let d = numbers.next().unwrap_or(0);
-    let e = numbers.next().unwrap_or(0);
+// The first five numbers of a line.
+pub fn numbers_in(line: &[u8]) -> Numbers {
+    let mut rest = Rest { text: line };
+    let a = rest.number().unwrap_or(0);
+    let b = rest.number().unwrap_or(0);
+    let c = rest.number().unwrap_or(0);
+    let d = rest.number().unwrap_or(0);
+    let e = rest.number().unwrap_or(0);
     Numbers { a, b, c, d, e }
-}
-
-// A word of a file that a line sets, written K=N: its number and its value.
-pub fn word_set(text: &str) -> Option<(u32, u32)> {
-    let (k, n) = text.split_once('=')?;
-    Some((number(k)?, number(n)?))
 }
