@@ -133,9 +133,9 @@ search("7a", "closures, Fn, dyn", r"\|\w*\| |impl Fn|: Fn|dyn ")
 search("7b", "enums that say which step", r"pub enum \w*(Step|Op|Command|Kind)\b")
 
 # ---- 8
-kinds = collections.Counter(p.name for p in proofs)
-show("8a", "proof files Answers.antt", [name(p) for p in proofs if p.name == "Answers.antt" and p.parent.parent.name == "proofs"])
-show("8b", "proof files Invariants.antt", [name(p) for p in proofs if p.name == "Invariants.antt"])
+own = [p for p in proofs if p.name in ("Answers.antt", "Invariants.antt") and len(p.relative_to(top / "crates").parts) > 3]
+show("8a", "proof files Answers.antt beside functions and methods", [name(p) for p in own if p.name == "Answers.antt"])
+show("8b", "proof files Invariants.antt", [name(p) for p in own if p.name == "Invariants.antt"])
 search("8c", "lemmas that are named after a place of the code", r"^[a-z]\w*_at_(In|After|Then|Loop)\w* :", proofs, r"^\s*--")
-search("8d", "lines of proofs beside functions (proofs/F/)", r"^.*\S", [p for p in proofs if p.name in ("Answers.antt", "Invariants.antt") and p.parent.parent.name == "proofs"], r"^$")
+search("8d", "lines of those files", r"^.*\S", own, r"^$")
 search("8e", "lemma names with _lem", r"^(pub )?\w*_lem\b.* :", proofs, r"^\s*--")
