@@ -63,34 +63,38 @@ def types(top):
     return found
 
 
-def declarations(top, part):
-    """Each definition or theorem by file and name: its type, and for definitions the equations."""
+def definitions(top):
+    """Each definition of specs/ by file and name: its type and equations."""
     found = collections.OrderedDict()
-    for p in sorted(top.glob(f"crates/*/{part}/**/*.antt")):
-        if "/out/" in str(p):
-            continue
-        if part == "proofs" and p.name in ("Answers.antt", "Invariants.antt") and p.parent.parent.name != p.parts[-4] or (
-            part == "proofs" and p.name in ("Answers.antt", "Invariants.antt") and len(p.relative_to(top / "crates").parts) > 3
-        ):
-            continue
+    for p in sorted(top.glob("crates/*/specs/**/*.antt")):
         name = str(p.relative_to(top / "crates"))
         text = re.sub(r"(?m)^ *--.*\n", "", p.read_text())
+        text = re.sub(r"(?m)^use .*\n", "", text)
         for block in re.split(r"\n\s*\n", text):
-            if block.startswith("use ") or not block.strip():
-                block = re.sub(r"(?m)^use .*\n?", "", block)
-            m = re.match(r"\s*(?:abbrev |unfoldable )?(pub )?(?:abbrev |unfoldable )?(?:record |data )?([^\s:{}(]+)", block)
+            m = re.match(r"\s*(?:abbrev |unfoldable )?(?:pub )?(?:abbrev |unfoldable )?(?:record |data )?([^\s:{}(]+)", block)
+            if m and m.group(1) not in ("pub", "mod", "module"):
+                found.setdefault((name, m.group(1)), squeezed(block))
+    return found
+
+
+def theorems(top):
+    """Each public declaration of proofs/, but for the answers of functions, by file and name: its statement."""
+    found = collections.OrderedDict()
+    for p in sorted(top.glob("crates/*/proofs/**/*.antt")):
+        parts = p.relative_to(top / "crates").parts
+        if "out" in parts or (p.name in ("Answers.antt", "Invariants.antt") and len(parts) > 3):
+            continue
+        lines = [l for l in p.read_text().split("\n") if not l.lstrip().startswith("--")]
+        for n, line in enumerate(lines):
+            m = re.match(r"^( *)(?:abbrev )?pub (?:abbrev )?([^\s:{}()]+)(?: \{[^}]*\})* : ", line)
             if not m:
                 continue
-            body = squeezed(block)
-            if part == "proofs":
-                # the statement alone
-                own = m.group(2)
-                cut = re.search(r"\n *(?:unfolding [^\n]*\n *)?" + re.escape(own) + r"[ =]", block)
-                body = squeezed(block[: cut.start()] if cut else block.split("\n    let ")[0])
-                body = re.sub(r" unfolding .*$", "", body)
-                if not m.group(1):
-                    continue
-            found.setdefault((name, m.group(2)), body)
+            statement = [line.strip()]
+            for more in lines[n + 1 :]:
+                if not more.strip() or re.match(r"\s*(unfolding |where\b|" + re.escape(m.group(2)) + r"[ =])", more):
+                    break
+                statement.append(more.strip())
+            found.setdefault(("/".join(parts), m.group(2)), squeezed(" ".join(statement)))
     return found
 
 
@@ -119,7 +123,7 @@ def compare(title, old, new, place, head=("What", "Old", "New")):
         else:
             rows.append(row([place(key), f"`{text}`", "(gone)"]))
     for key, text in new.items():
-        if key not in old and key not in used and not any(k[1].split("::")[-1] == key[1].split("::")[-1] for k in old):
+        if key not in old and key not in used and text not in old.values():
             rows.append(row([place(key), "(new)", f"`{text}`"]))
     print(f"### {title}: {len(rows)}\n")
     if rows:
@@ -131,5 +135,5 @@ def compare(title, old, new, place, head=("What", "Old", "New")):
 
 compare("Public functions", functions(old_top), functions(new_top), lambda k: f"{k[0]}::{k[1]}")
 compare("Public types, constants and implementations", types(old_top), types(new_top), lambda k: f"{k[0]}: {k[1]}")
-compare("Definitions (specs/)", declarations(old_top, "specs"), declarations(new_top, "specs"), lambda k: f"{k[0]}: {k[1]}")
-compare("Public theorems (proofs/, beside functions' own answers)", declarations(old_top, "proofs"), declarations(new_top, "proofs"), lambda k: f"{k[0]}: {k[1]}")
+compare("Definitions (specs/)", definitions(old_top), definitions(new_top), lambda k: f"{k[0]}: {k[1]}")
+compare("Public theorems (proofs/, but for the answers of functions)", theorems(old_top), theorems(new_top), lambda k: f"{k[0]}: {k[1]}")
