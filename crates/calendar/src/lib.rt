@@ -45,12 +45,14 @@ fn year_length(leap: bool) -> u32
     if leap { 366 } else { 365 }
 }
 
-// The month, counted from 0, in which a day of the year lies: the last that begins before the day ends.
+// The month, counted from 0, in which a day of the year lies: the last that begins before the day ends. No month has more than 31 days, so month k has begun by day
+// 32·k: the search goes on from there, and looks at two months at most.
 #[tactic(auto, unfolding(calendar_rules::specs::Gregorian::last_before))]
 fn month_of(leap: bool, day: u32) -> usize
     ensures { result ≡ month_of leap day }
 {
-    for month in 1..12 {
+    let first = (day / 32).min(11) as usize;
+    for month in first + 1..12 {
         if day <= days_before(leap, month) {
             return month - 1;
         }

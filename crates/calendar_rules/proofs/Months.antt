@@ -4,12 +4,12 @@ use mathlib.Core.Path.{◌≡◌, refl, sym, ap₂, ◌∙◌}
 use mathlib.Core.Bool.{Bool, true, false}
 use mathlib.Core.Logic.{⊎_elim}
 use mathlib.Core.List.{List, [], ◌∷◌}
-use Prim.Native.Nat.{ℕ, zero, suc, ◌+◌, ◌-◌, ◌%◌, ◌≤◌, ◌<◌}
+use Prim.Native.Nat.{ℕ, zero, suc, ◌+◌, ◌-◌, ◌*◌, ◌%◌, ◌≤◌, ◌<◌}
 use native.Mathlib.Nat.{eq-or-lt_of_le, le_of_suc-le-suc}
 use native.Mathlib.Omega.{arith}
 use lib.Dec.{leb, ltb, eqb}
 use lib.ListN.{get_or}
-use borrow.Author.Tests.{eqb-true, le-leb, lt-leb, lt-ltb, le-ltb, ltb-true, ltb-false}
+use borrow.Author.Tests.{eqb-true, leb-true, le-leb, lt-leb, lt-ltb, le-ltb, ltb-true, ltb-false}
 use Rattle.lists.specs.Choices.{pick}
 use Rattle.lists.proofs.Every.{every_at}
 use Rattle.calendar_rules.specs.Gregorian.{days_before, year_length, last_before}
@@ -82,6 +82,25 @@ last_stays isLeap day m (suc k) h le =
     let back : suc k - 1 ≡ k = omega arith in
     rw back at (last_back isLeap day (suc k) (omega arith) past) ∙ last_stays isLeap day m k (le_of_suc-le-suc lt) le)
     (eq-or-lt_of_le h)
+
+-- the months before month m have at most 31·m days: one test, computed over the whole table
+months_of_31 : ℕ → ℕ → Bool
+months_of_31 k x = leb x (31 * (k % 12))
+
+days_most : (isLeap : Bool) (m : ℕ) → m < 12 → days_before isLeap m ≤ 31 * m
+unfolding months_of_31
+days_most false m h =
+    let e : m % 12 ≡ m = omega arith in
+    rw (common_entry m h, e) at (leb-true (get_or days_table m 0) (31 * (m % 12)) (every_at months_of_31 days_table 0 refl m (omega (arith, h))))
+days_most true m h =
+    let e : (12 + m) % 12 ≡ m = omega arith in
+    rw (leap-entry m h, e) at (leb-true (get_or days_table (12 + m) 0) (31 * ((12 + m) % 12)) (every_at months_of_31 days_table 0 refl (12 + m) (omega (arith, h))))
+
+-- so month m has begun by day 32·m
+pub last_from : (isLeap : Bool) (day m : ℕ) → m < 12 → 32 * m ≤ day → last_before isLeap day m ≡ m
+unfolding last_before
+last_from isLeap day zero small h = refl
+last_from isLeap day (suc m) small h = last_here isLeap day (suc m) (omega arith) (omega (arith, h, days_most isLeap (suc m) small))
 
 -- a day after the start of a month and not after its end lies in it
 pub month_only : (isLeap : Bool) (day m k : ℕ) → m ≤ k → days_before isLeap m < day → day ≤ days_before isLeap (suc m)

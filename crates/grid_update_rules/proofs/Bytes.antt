@@ -6,7 +6,7 @@ use Prim.Native.Nat.{ℕ, ◌+◌, ◌*◌, ◌≤◌, ◌<◌}
 use native.Mathlib.Numerals.{add-one}
 use native.Mathlib.Omega.{arith}
 use lib.IntN.{ℤ}
-use lib.ListN.{length, get_or, take, drop, length-append, length-drop, length-map}
+use lib.ListN.{length, get_or, set, take, drop, length-append, length-drop, length-map}
 use lib.Seq.{sets, sets-eq, length-take-le, take-suc, take_all}
 use borrow.Rule.Slice.PartMut.{put_mid}
 use mir.Syntax.{w32}
@@ -30,6 +30,12 @@ module _ {A : Type 0} (l : List A) (a : ℕ) {g h : List A} where
       ∙ ap (λ (k : List A). sets k (a + n) c) before
       ∙ ap (λ (m : ℕ). sets (sets l a b) (a + m) c) (sym long)
       ∙ sym (sets-append b c l a)
+
+  -- the first i elements of a list, and element i
+  pub element-behind : (b : List A) (i : ℕ) (d : A) → i < length b → g ≡ sets l a (take i b) → h ≡ set g (a + i) (get_or b i d) → h ≡ sets l a (take (i + 1) b)
+  element-behind b i d here before e =
+      stored_behind (take i b) (get_or b i d ∷ []) i before e (length-take-le i b (omega (arith, here)))
+      ∙ ap (sets l a) (sym (take-suc b i d here) ∙ ap (λ (k : ℕ). take k b) (sym (add-one i)))
 
 -- a part of a list that a list is copied into
 pub put_part : {A : Type 0} (l part b : List A) (a k : ℕ) → part ≡ b → length b ≡ k → a + k ≤ length l → put_mid a k l part ≡ sets l a b

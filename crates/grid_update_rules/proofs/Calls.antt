@@ -17,7 +17,7 @@ use Rattle.lists.proofs.Filled.{length-over, over_front, over_again}
 use Rattle.endian_rules.specs.Words.{word_at}
 use Rattle.endian_rules.specs.declared.Order.{Order}
 use Rattle.refusal_rules.specs.Rules.{first_fault, Refused, Verdict, Pass, Fault}
-use Rattle.refusal_rules.specs.Answers.{Answer, gives, refuses}
+use Rattle.refusal_rules.specs.Answers.{Answer, gives, refuses, says}
 use Rattle.refusal_rules.specs.declared.Refusal.{Refusal}
 use Rattle.refusal_rules.proofs.Answers.{gives-same, gives-refuses}
 use Rattle.extent_rules.specs.Stretches.{no_words}
@@ -28,9 +28,9 @@ use Rattle.extent_rules.proofs.Runs.{stretches_listed, stretches_few, stretches_
 use Rattle.extent_rules.proofs.Fit.{searched-room}
 use Rattle.grid_update_rules.specs.Updates.{stretches_of, answer_and_table, file_left, changed, stretch_rules, tell_stretches, delete_rules, without_grid, delete_grid, grid_words, address_for, add_rules, with_grid, added, add_grid}
 use Rattle.grid_update_rules.proofs.Deleted.{delete_passes, deleted_accepted, deleted_count}
-use Rattle.grid_update_rules.proofs.Addition.{AddPasses, add_passes, added-length, added_accepted, added_count, added_starts}
+use Rattle.grid_update_rules.proofs.Addition.{AddAsked, AddPasses, add_passes, added-length, added_accepted, added_count, added_starts}
 use Rattle.grid_update_rules.proofs.Exact.{tell_passes}
-use Rattle.grid_update_rules.specs.Steps.{stretch_says, addition_says, counted_stretches, stepped, tell_step, delete_step, refused_plan, plan_of, add_plan, add_step, Ready}
+use Rattle.grid_update_rules.specs.Steps.{stretch_says, addition_says, counted_stretches, stepped, tell_step, delete_step, refused_plan, plan_of, planned, add_plan, plan_places, add_step, Ready}
 use Rattle.grid_update_rules.proofs.Plans.{plan_is, plan_refuses}
 use Rattle.grid_update_rules.specs.declared.Added.{Added}
 use Rattle.grid_update_rules.specs.declared.AddPlan.{AddPlan}
@@ -156,13 +156,25 @@ module _ (o : Order) (f : List ℕ) (number : ℕ) (t : List Extent) (d : Result
 
 -- ---- adding: the plan
 
--- the places that are to be filled before the search are in the table, and the file is accepted
-pub plan_may_fill : (o : Order) (f : List ℕ) (headers rows columns values : ℕ) (t : List Extent) (p : AddPlan)
-    → gives p ≡ add_plan o f headers rows columns values (length t) → (p.count ≤ length t) × (0 < p.count → GridAccepted o f)
+-- the places that a plan fills, by the verdict of the rules
+planned_may_fill : (o : Order) (f : List ℕ) (rows columns size : ℕ) (v : Verdict)
+    → (v ≡ Pass → GridAccepted o f × (length (stretches_of o f) ≤ size)) → Fillable o f size (plan_places (planned v o f rows columns))
+planned_may_fill o f rows columns size Pass h = (omega (arith, (h refl).1), λ some. (h refl).0)
+planned_may_fill o f rows columns size (Fault r) h = none_fillable o f size
+
+-- the places that are to be filled before the search are in the table, and the file is accepted if there are any
+pub plan_may_fill : (o : Order) (f : List ℕ) (headers rows columns values : ℕ) (t : List Extent) (p : Answer AddPlan)
+    → p ≡ add_plan o f headers rows columns values (length t) → (plan_places p ≤ length t) × (0 < plan_places p → GridAccepted o f)
+unfolding add_plan
 plan_may_fill o f headers rows columns values t p e =
-    let is = plan_is o f headers rows columns values (length t) p e in
-    let asked = ((add_passes o f headers rows columns values (length t)).0 is.0).asked in
-    (omega (arith, ap (λ (q : AddPlan). q.count) is.1, table_room o f (length t) asked.table), λ some. asked.accepted)
+    subst (λ (q : Answer AddPlan). Fillable o f (length t) (plan_places q)) (sym e)
+    (planned_may_fill o f rows columns (length t) (first_fault (add_rules o f headers rows columns values (length t))) (λ ok. asked (passes ok).asked))
+  where
+    passes : first_fault (add_rules o f headers rows columns values (length t)) ≡ Pass → AddPasses o f headers rows columns values (length t)
+    passes = (add_passes o f headers rows columns values (length t)).0
+
+    asked : AddAsked o f headers rows columns values (length t) → GridAccepted o f × (length (stretches_of o f) ≤ length t)
+    asked a = (a.accepted, table_room o f (length t) a.table)
 
 -- what a search of the table finds, filled as the plan says, or else the last stretch, begins at the lowest address
 planned_finds : (o : Order) (f : List ℕ) (headers rows columns values : ℕ) (t : List Extent) → AddPasses o f headers rows columns values (length t)
@@ -177,20 +189,20 @@ planned_finds o f headers rows columns values t x =
     over_front (runs o f (n - 1)) t i no_words (rw (length-list_of (λ k. nth_run o f (suc k)) (n - 1)) l)
     ∙ get_or-list_of (λ k. nth_run o f (suc k)) (n - 1) i no_words l)
 
--- what was found in the table, filled as the plan says, makes the plan ready
-pub plan_ready : (o : Order) (f header : List ℕ) (rows columns : ℕ) (values : List ℤ) (t : List Extent) (p : AddPlan) (e : Extent)
-    → gives p ≡ add_plan o f (length header) rows columns (length values) (length t)
-    → e ≡ searched (runs_over o f p.count t) p.need p.count
-    → Ready o f header rows columns values (length t) (Ok p) e
-plan_ready o f header rows columns values t p e given found =
-    let is = plan_is o f (length header) rows columns (length values) (length t) p given in
+-- what was found in the table, filled as the plan says, makes the plan ready; one that is refused is ready whatever was found
+pub plan_ready : (o : Order) (f header : List ℕ) (rows columns : ℕ) (values : List ℤ) (t : List Extent) (p : Result AddPlan Refusal) (e : Extent)
+    → says p ≡ add_plan o f (length header) rows columns (length values) (length t)
+    → ((q : AddPlan) → p ≡ Ok q → e ≡ searched (runs_over o f q.count t) q.need q.count)
+    → Ready o f header rows columns values (length t) p e
+plan_ready o f header rows columns values t p e is found =
     record {
-      planned = given;
+      planned = is;
       address = λ q same.
-          let this : q ≡ p = cc in
-          rw (this, found, is.1)
+          let given = subst (λ (x : Result AddPlan Refusal). says x ≡ add_plan o f (length header) rows columns (length values) (length t)) same is in
+          let plan = plan_is o f (length header) rows columns (length values) (length t) q given in
+          rw (found q same, plan.1)
           (planned_finds o f (length header) rows columns (length values) t
-          ((add_passes o f (length header) rows columns (length values) (length t)).0 is.0));
+          ((add_passes o f (length header) rows columns (length values) (length t)).0 plan.0));
     }
 
 -- ---- adding
@@ -213,6 +225,17 @@ module _ (o : Order) (f header : List ℕ) (rows columns : ℕ) (values : List �
       rw (added-length o f header rows columns values size ok)
       (stretches_more (word_at o f) (word_at o (with_grid o f header rows columns values)) (length f / 4) (address_for o f (grid_words rows columns))
       (sym (added_count o f header rows columns values size ok)) (added_starts o f header rows columns values size ok))
+
+-- the last filling covers the first, where at most one free stretch is gone
+changed_again : {Value : Type 0} (v : Verdict) (value : ℕ → Value) (o : Order) (f g : List ℕ) (rows columns : ℕ) (t : List Extent)
+    → (v ≡ Pass → length (stretches_of o f) ≤ length (stretches_of o g) + 1)
+    → changed v value o f g (runs_over o f (plan_places (planned v o f rows columns)) t) ≡ changed v value o f g t
+changed_again Pass value o f g rows columns t h =
+    ap (λ (u : List Extent). (gives (value (length (stretches_of o g))), (g, u)))
+    (over_again (stretches_of o g) (runs o f (length (stretches_of o f) - 1)) t
+    (omega (arith, h refl, length-list_of (λ i. nth_run o f (suc i)) (length (stretches_of o f) - 1))))
+changed_again (Fault r) value o f g rows columns t h =
+    ap (λ (u : List Extent). (refuses r.number r.place, (file_left (Fault r) f g, u))) (runs_none o f t)
 
 module _ (o : Order) (f header : List ℕ) (rows columns : ℕ) (values : List ℤ) (t : List Extent) where
   -- a plan that is refused is the refusal of the call, which leaves file and table as they were
@@ -245,18 +268,16 @@ module _ (o : Order) (f header : List ℕ) (rows columns : ℕ) (values : List �
     add_may_fill = adds.may_fill
 
   -- once they are filled, in the table that was filled for the search, answer, file and table are those of the call
-  pub add_done : (p : AddPlan) (a : Result Added Refusal) (g : List ℕ) → gives p ≡ add_plan o f (length header) rows columns (length values) (length t)
+  pub add_done : (p : Answer AddPlan) (a : Result Added Refusal) (g : List ℕ) → p ≡ add_plan o f (length header) rows columns (length values) (length t)
       → (addition_says a, g) ≡ add_step o f header rows columns values (length t)
-      → ((addition_says a).0, (g, runs_over o g (addition_says a).1 (runs_over o f p.count t))) ≡ add_grid o f header rows columns values t
-  unfolding add_grid
-  add_done p a g given e =
-      let is = plan_is o f (length header) rows columns (length values) (length t) p given in
+      → ((addition_says a).0, (g, runs_over o g (addition_says a).1 (runs_over o f (plan_places p) t))) ≡ add_grid o f header rows columns values t
+  unfolding add_grid add_plan
+  add_done p a g is e =
+      let v : Verdict = first_fault (add_rules o f (length header) rows columns (length values) (length t)) in
       let h : List ℕ = with_grid o f header rows columns values in
-      let n : ℕ = length (stretches_of o f) - 1 in
-      (adds a g e).done (runs_over o f p.count t)
-      ∙ rw (is.0, is.1) (ap (λ (u : List Extent). (gives (added o f rows columns (length (stretches_of o h))), (h, u)))
-      (over_again (stretches_of o h) (runs o f n) t
-      (omega (arith, add_fewer o f header rows columns values (length t) is.0, length-list_of (λ i. nth_run o f (suc i)) n))))
+      (adds a g e).done (runs_over o f (plan_places p) t)
+      ∙ ap (λ (q : Answer AddPlan). changed v (added o f rows columns) o f h (runs_over o f (plan_places q) t)) is
+      ∙ changed_again v (added o f rows columns) o f h rows columns t (add_fewer o f header rows columns values (length t))
 
 -- ---- after a call
 

@@ -61,6 +61,11 @@ planned (Fault r) o f rows columns = refused_plan r
 unfoldable pub add_plan : Order → List ℕ → ℕ → ℕ → ℕ → ℕ → ℕ → Answer AddPlan
 add_plan o f headers rows columns values size = planned (first_fault (add_rules o f headers rows columns values size)) o f rows columns
 
+-- how many places of the table are to be filled before the search, by what is said of a plan: none where it is refused
+abbrev pub plan_places : Answer AddPlan → ℕ
+plan_places (gives p) = p.count
+plan_places (refuses number place) = 0
+
 -- what adding in the file says, with a table of `size` pairs, and the file that it leaves
 unfoldable pub add_step : Order → List ℕ → List ℕ → ℕ → ℕ → List ℤ → ℕ → (Answer Added × ℕ) × List ℕ
 add_step o f header rows columns values size =

@@ -3,9 +3,10 @@
 
 ghost use Rattle.std.specs.Prelude.{◌≡◌, eqb};
 ghost use Rattle.lists.specs.Choices.{both, either};
-ghost use Rattle.refusal_rules.specs.Rules.{rule, judge, numbered};
+ghost use Rattle.refusal_rules.specs.Rules.{rule, judge, first, numbered};
 ghost use Rattle.refusal_rules.specs.Answers.{verdict_of};
 ghost use Rattle.refusal_rules.specs.Tests.{within};
+ghost use Rattle.refusal.specs.Numbered.{numbered_verdict};
 
 use refusal_rules::Refusal;
 
@@ -15,6 +16,35 @@ pub fn check(holds: bool, refusal: Refusal) -> Result<(), Refusal>
     ensures { verdict_of result ≡ judge (rule holds (numbered refusal).number (numbered refusal).place) }
 {
     if holds { Ok(()) } else { Err(refusal) }
+}
+
+// A refusal of any number and place, for rules that are no rows of document 01's table.
+#[derive(Clone, Copy, Debug, PartialEq, Eq)]
+pub struct NumberedRefusal {
+    pub number: u32,
+    pub place: u64,
+}
+
+// One rule more, of any number and place: a refusal before it stays as it is, and after a pass a rule that does not hold is refused with its own number and
+// place. `check` is for the rows of document 01's table, this for rules of a caller's own.
+#[tactic(auto, unfolding(refusal_rules::specs::Rules::first, refusal_rules::specs::Rules::judge))]
+pub fn check_numbered(
+    before: Result<(), NumberedRefusal>,
+    holds: bool,
+    number: u32,
+    place: usize,
+) -> Result<(), NumberedRefusal>
+    ensures { numbered_verdict result ≡ first (numbered_verdict before) (judge (rule holds number place)) }
+{
+    before?;
+    if holds {
+        Ok(())
+    } else {
+        Err(NumberedRefusal {
+            number,
+            place: place as u64,
+        })
+    }
 }
 
 // Whether a number is at least `low` and at most `high`.

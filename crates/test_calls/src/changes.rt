@@ -8,7 +8,7 @@ use endian_rules::Order;
 use endian_steps::{read_word, write_number};
 use extent_rules::Extent;
 use grid_updates_by_value::{
-    SHORT_PLACES, WithTable, add_with_given_table, add_with_table, delete_with_given_table,
+    PLACES, SHORT_PLACES, WithTable, add_with_given_table, add_with_table, delete_with_given_table,
     delete_with_table, free_stretches_with_table,
 };
 use layout::{open_area, open_grid, open_md};
@@ -43,11 +43,16 @@ pub fn open_kind(file: &[u8], kind: Kind, order: Order, number: u32) -> Result<L
     }
 }
 
-// Writes what a call with a table of its own answers, and each free stretch in the table.
-fn say_with_stretches<T: Told, const N: usize>(
+// Makes a call with a table of its own, and writes what it answers and each free stretch in the table. Not part of its caller's body: the table would be cleared
+// for each line of a script.
+#[inline(never)]
+fn say_with_stretches<T: Told, F: FnOnce() -> WithTable<T, PLACES>>(
     rt: &impl Print,
-    outcome: WithTable<T, N>,
-) -> io::Result<()> {
+    call: F,
+) -> io::Result<()>
+    requires { F.IsAlwaysCallable call }
+{
+    let outcome = call();
     say(rt, outcome.answer)?;
     say_stretches(rt, &outcome.table)
 }
@@ -181,9 +186,11 @@ pub fn change(
     n: Numbers,
 ) -> io::Result<()> {
     match call {
-        PlainCall::Delete => say_with_stretches(rt, delete_with_table(file, order, n.a)),
+        PlainCall::Delete => say_with_stretches(rt, || delete_with_table(file, order, n.a)),
         PlainCall::Add => add_made(n, |header, values| {
-            say_with_stretches(rt, add_with_table(file, order, header, n.a, n.b, values))
+            say_with_stretches(rt, || {
+                add_with_table(file, order, header, n.a, n.b, values)
+            })
         }),
         PlainCall::AddShort => add_made(n, |header, values| {
             say_with_places(
@@ -195,7 +202,7 @@ pub fn change(
             rt,
             delete_with_given_table(file, order, n.a, SHORT_TABLE),
         ),
-        PlainCall::Stretches => say_with_stretches(rt, free_stretches_with_table(file, order)),
+        PlainCall::Stretches => say_with_stretches(rt, || free_stretches_with_table(file, order)),
         PlainCall::Word => print!(rt; ": {}", signed(word_at(file, order, n.a))),
         PlainCall::Date => say(rt, date_of(signed(n.a))),
         PlainCall::Time => say(rt, time_of(signed(n.a))),

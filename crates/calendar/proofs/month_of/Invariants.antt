@@ -1,4 +1,5 @@
--- `calendar::month_of` meets its contract. The loop goes up from February: each month before the one it is at begins before the day ends.
+-- `calendar::month_of` meets its contract. The loop goes up from the month behind one that has begun: each month before the one it is at begins before the
+-- day ends.
 -- Assumes nothing.
 use mathlib.Core.Path.{◌≡◌}
 use Prim.Native.Nat.{◌-◌}

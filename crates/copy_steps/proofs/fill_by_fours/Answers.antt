@@ -1,11 +1,12 @@
 -- `copy_steps::fill_by_fours` meets its contract: after so many turns four times as many places hold what is read. The rest is filled one by one.
 -- Assumes nothing.
-use mathlib.Core.Path.{◌≡◌, refl, sym}
-use Prim.Native.Nat.{◌+◌, ◌-◌, ◌*◌, ◌/◌, ◌^◌, ◌<◌}
+use mathlib.Core.Path.{◌≡◌, sym, subst}
+use Prim.Native.Nat.{ℕ, ◌+◌, ◌-◌, ◌*◌, ◌/◌, ◌^◌, ◌<◌}
 use native.Mathlib.Omega.{arith}
 use lib.ListN.{length, take, drop, length-take}
+use borrow.Rule.Slice.PartMut.{put_mid}
 use Rattle.lists.proofs.Parts.{length-part}
-use Rattle.copy_rules.proofs.Runs.{none_filled, all_filled, further_holds, up_to_filled, byte_behind}
+use Rattle.copy_rules.proofs.Runs.{Filled, none_filled, all_filled, further_holds, up_to_filled, four_filled, byte_behind}
 use Rattle.copy_steps.specs.Fills.{Readable, Reads}
 use Rattle.copy_steps.proofs.fill_by_fours.Goals as goal
 
@@ -21,9 +22,12 @@ fill_four-requires g c = (
 pub loop-turn-preserved : goal.loop-turn-preserved
 loop-turn-preserved g c =
     λ value reads.
-    up_to_filled (c.loop-turn.invariant value reads) (4 * c.loop-turn.turn) _ 4 (4 * (c.loop-turn.turn + 1)) refl (omega arith) (omega arith) (omega arith)
+    let start = 4 * c.loop-turn.turn in
+    let next : start + 4 ≡ 4 * (c.loop-turn.turn + 1) = omega arith in
+    subst (λ (k : ℕ). Filled value c.args.at c.args.step k c.args.out.now (put_mid start (start + 4 - start) c.loop-turn.out c.fill_four.new.out)) next
+    (four_filled (c.loop-turn.invariant value reads) 0 (2 ^ 63 - 1) (λ j lt. omega (arith, (c.requires j lt).0)) (omega arith) (omega arith)
     (c.fill_four.ensures value
-    (further_holds (Reads (goal.F-post g c.args.read) value) c.args.at c.args.step (length c.args.out.now) (4 * c.loop-turn.turn) 4 reads (omega arith)))
+    (further_holds (Reads (goal.F-post g c.args.read) value) c.args.at c.args.step (length c.args.out.now) start 4 reads (omega arith)))).0
 
 pub overflow_add-at-2 : goal.overflow_add-at-2
 overflow_add-at-2 g c =

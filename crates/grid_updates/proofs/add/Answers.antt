@@ -1,7 +1,8 @@
 -- `grid_updates::add` meets its contract: the table holds the free stretches of the file while it is searched, and those of the file with the grid in the end.
 -- Assumes nothing.
 use Rattle.std.proofs.Common.{List, length, ap}
-use Rattle.std.specs.Prelude.{Ok}
+use Rattle.std.specs.Prelude.{◌≡◌, Ok}
+use Rattle.refusal_rules.specs.Answers.{gives}
 use Rattle.extent_rules.specs.declared.Extent.{Extent}
 use Rattle.std.proofs.lemmas.Result.{err_from_is_err_and}
 use Rattle.grid_update_rules.proofs.Calls.{plan_may_fill, plan_ready, add_refused, add_allowed, add_may_fill, add_done}
@@ -10,14 +11,17 @@ use Rattle.grid_updates.proofs.add.Goals as goal
 pub search-found-requires : goal.search-found-requires
 search-found-requires c =
     let a = c.args in
-    plan_may_fill a.order a.file.now (length a.header.now) a.rows a.columns (length a.values.now) a.table.now c.in_ok-plan.plan c.in_ok-plan.ensures
+    plan_may_fill a.order a.file.now (length a.header.now) a.rows a.columns (length a.values.now) a.table.now (gives c.in_ok-plan.plan)
+    c.in_ok-plan.ensures
 
 pub add_at-requires : goal.add_at-requires
 add_at-requires c =
     let a = c.args in
     rw c.search-found.auto.table
-    (plan_ready a.order a.file.now a.header.now a.rows a.columns a.values.now a.table.now c.in_ok-plan.plan c.search-found.result c.in_ok-plan.ensures
-    (ap (λ (z : Extent × List Extent). z.0) c.search-found.ensures))
+    (plan_ready a.order a.file.now a.header.now a.rows a.columns a.values.now a.table.now (Ok c.in_ok-plan.plan) c.search-found.result c.in_ok-plan.ensures
+    (λ q same.
+    let this : q ≡ c.in_ok-plan.plan = cc in
+    rw this (ap (λ (z : Extent × List Extent). z.0) c.search-found.ensures)))
 
 pub fill-requires : goal.fill-requires
 fill-requires c =
@@ -33,7 +37,7 @@ returns c =
     let stepped = rw c.search-found.auto.table at c.add_at.ensures in
     let given = rw c.in_ok-added.was at stepped in
     rw (c.fill.ensures, ap (λ (z : Extent × List Extent). z.1) c.search-found.ensures)
-    (add_done a.order a.file.now a.header.now a.rows a.columns a.values.now a.table.now c.in_ok-plan.plan (Ok c.in_ok-added.added) c.add_at.new.file
+    (add_done a.order a.file.now a.header.now a.rows a.columns a.values.now a.table.now (gives c.in_ok-plan.plan) (Ok c.in_ok-added.added) c.add_at.new.file
     c.in_ok-plan.ensures given)
 
 pub returns-in_err-added : goal.returns-in_err-added
