@@ -43,8 +43,8 @@ pub fn open_kind(file: &[u8], kind: Kind, order: Order, number: u32) -> Result<L
     }
 }
 
-// Makes a call with a table of its own, and writes what it answers and each free stretch in the table. Not part of its caller's body: the table would be cleared
-// for each line of a script.
+// Makes a call with a table of its own, and writes what it answers and each free stretch in the table. Not part of its caller's body: there the table would be
+// cleared for each call that needs no layout, whether it has a table or not.
 #[inline(never)]
 fn say_with_stretches<T: Told, F: FnOnce() -> WithTable<T, PLACES>>(
     rt: &impl Print,
